@@ -1,0 +1,7 @@
+-- What contracts see of a cabinet in memory that never fails.
+use Rattle.mdoc_outside.specs.Files.{Files}
+use Rattle.mdoc_outside.specs.declared.sure_cabinet.SureCabinet.{SureCabinet}
+
+-- its files
+abbrev pub sure_files : SureCabinet → Files
+sure_files cabinet = cabinet.files.items

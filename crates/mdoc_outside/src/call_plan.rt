@@ -1,0 +1,46 @@
+// Which calls of an object in memory fail.
+ghost use Rattle.std.specs.Prelude.{◌≡◌, ◌+◌, ◌^◌, ◌-◌, ◌≤◌, ◌↔◌, min, IsTrue, Contains, MatchBool};
+ghost use Rattle.mdoc_outside.specs.Faults.{Rose};
+
+// The numbers of the calls that fail, from 0, with how many calls were made and how many failed.
+#[derive(Drop)]
+pub(crate) struct CallPlan {
+    fails: Vec<u64>,
+    calls: u64,
+    faults: u64,
+}
+
+impl CallPlan {
+    ghost use Rattle.mdoc_outside.specs.CallPlan.{failing, call_number, fault_count};
+
+    pub(crate) fn new(fails: Vec<u64>) -> CallPlan
+        ensures failing { failing result ≡ fails.items }
+        ensures calls { call_number result ≡ 0 }
+        ensures faults { fault_count result ≡ 0 }
+    {
+        CallPlan {
+            fails,
+            calls: 0,
+            faults: 0,
+        }
+    }
+
+    // Counts the call that begins now, and says whether it fails.
+    pub(crate) fn fails_now(&mut self) -> bool
+        ensures planned { IsTrue result ↔ Contains (failing self.old) (call_number self.old) }
+        ensures failing { failing self.new ≡ failing self.old }
+        ensures calls { call_number self.new ≡ min (call_number self.old + 1) (2 ^ 64 - 1) }
+        ensures faults { MatchBool result
+            (Rose (fault_count self.old) (fault_count self.new))
+            (fault_count self.new ≡ fault_count self.old) }
+        ensures later { fault_count self.old ≤ fault_count self.new }
+    {
+        let call = self.calls;
+        self.calls = self.calls.saturating_add(1);
+        let fails = self.fails.contains(&call);
+        if fails {
+            self.faults = self.faults.saturating_add(1);
+        }
+        fails
+    }
+}

@@ -1,0 +1,33 @@
+//! The outside of the mobile driving licence, as the crates above see it: a cabinet of named
+//! files and a sink of bytes, each a trait with forms in memory and a real form, beside the small
+//! types that contracts see as lists. Its one contract: a fault of the outside is answered only
+//! where that object's count of faults rose in that very call, and a refusal leaves what is held.
+#![tactic(auto)]
+
+mod cabinet;
+mod cabinet_fault;
+mod call_plan;
+mod files;
+mod memory;
+mod memory_cabinet;
+mod memory_sink;
+mod octets;
+mod rows;
+mod sink;
+mod sink_fault;
+mod sure_cabinet;
+mod sure_sink;
+mod word;
+
+pub use cabinet::Cabinet;
+pub use cabinet_fault::CabinetFault;
+pub use memory::Memory;
+pub use memory_cabinet::MemoryCabinet;
+pub use memory_sink::MemorySink;
+pub use octets::Octets;
+pub use rows::Rows;
+pub use sink::Sink;
+pub use sink_fault::SinkFault;
+pub use sure_cabinet::SureCabinet;
+pub use sure_sink::SureSink;
+pub use word::Word;
