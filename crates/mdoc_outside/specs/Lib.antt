@@ -1,6 +1,8 @@
 pub mod CallPlan
 pub mod Faults
 pub mod Files
+pub mod KeyName
+pub mod LimitName
 pub mod MemoryCabinet
 pub mod MemorySink
 pub mod Sink

@@ -1,5 +1,5 @@
 // Which calls of an object in memory fail.
-ghost use Rattle.std.specs.Prelude.{◌≡◌, ◌+◌, ◌^◌, ◌-◌, ◌≤◌, ◌↔◌, min, IsTrue, Contains, MatchBool};
+ghost use Rattle.std.specs.Prelude.{◌≡◌, ◌≤◌, ◌↔◌, IsTrue, Contains, MatchBool};
 ghost use Rattle.mdoc_outside.specs.Faults.{Rose};
 
 // The numbers of the calls that fail, from 0, with how many calls were made and how many failed.
@@ -11,7 +11,7 @@ pub(crate) struct CallPlan {
 }
 
 impl CallPlan {
-    ghost use Rattle.mdoc_outside.specs.CallPlan.{failing, call_number, fault_count};
+    ghost use Rattle.mdoc_outside.specs.CallPlan.{failing, call_number, fault_count, IsNextCall};
 
     pub(crate) fn new(fails: Vec<u64>) -> CallPlan
         ensures failing { failing result ≡ fails.items }
@@ -29,7 +29,7 @@ impl CallPlan {
     pub(crate) fn fails_now(&mut self) -> bool
         ensures planned { IsTrue result ↔ Contains (failing self.old) (call_number self.old) }
         ensures failing { failing self.new ≡ failing self.old }
-        ensures calls { call_number self.new ≡ min (call_number self.old + 1) (2 ^ 64 - 1) }
+        ensures calls { IsNextCall (call_number self.old) (call_number self.new) }
         ensures faults { MatchBool result
             (Rose (fault_count self.old) (fault_count self.new))
             (fault_count self.new ≡ fault_count self.old) }

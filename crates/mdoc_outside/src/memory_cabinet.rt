@@ -1,5 +1,5 @@
 // A cabinet in memory, some of whose calls fail.
-ghost use Rattle.std.specs.Prelude.{◌≡◌, Some};
+ghost use Rattle.std.specs.Prelude.{◌≡◌, Some, IfOk};
 
 use crate::call_plan::CallPlan;
 use crate::files::find;
@@ -33,13 +33,25 @@ impl MemoryCabinet {
 }
 
 impl Cabinet for MemoryCabinet {
-    ghost use Rattle.mdoc_outside.specs.MemoryCabinet.{cabinet_files, cabinet_faults};
+    ghost use Rattle.mdoc_outside.specs.CallPlan.{FailsAsPlanned, IsNextCall};
+    ghost use Rattle.mdoc_outside.specs.Faults.{HasCause};
+    ghost use Rattle.mdoc_outside.specs.Files.{Reads, Writes};
+    ghost use Rattle.mdoc_outside.specs.MemoryCabinet.{cabinet_files, cabinet_failing, cabinet_call, cabinet_faults};
+    ghost use Rattle.mdoc_outside.specs.declared.cabinet_fault.CabinetFault.TheVariants.{Failed, Memory};
 
     ghost files = { λ c. Some (cabinet_files c) };
 
     ghost faults = { λ c. cabinet_faults c };
 
-    fn read(&mut self, name: &str) -> Result<Option<Octets>, CabinetFault> {
+    // The trait's clauses, and that the calls of the plan fail and no others.
+    fn read(&mut self, name: &str) -> Result<Option<Octets>, CabinetFault>
+        ensures found { IfOk result (Reads (Some (cabinet_files self.old)) name.now) }
+        ensures same { cabinet_files self.new ≡ cabinet_files self.old }
+        ensures cause { HasCause Failed Memory (cabinet_faults self.old) (cabinet_faults self.new) result }
+        ensures planned { FailsAsPlanned Failed (cabinet_failing self.old) (cabinet_call self.old) result }
+        ensures failing { cabinet_failing self.new ≡ cabinet_failing self.old }
+        ensures calls { IsNextCall (cabinet_call self.old) (cabinet_call self.new) }
+    {
         if self.plan.fails_now() {
             return Err(CabinetFault::Failed);
         }
@@ -49,7 +61,16 @@ impl Cabinet for MemoryCabinet {
         }
     }
 
-    fn write(&mut self, name: &str, bytes: &[u8]) -> Result<(), CabinetFault> {
+    // The same of a write.
+    fn write(&mut self, name: &str, bytes: &[u8]) -> Result<(), CabinetFault>
+        ensures files { let before = Some (cabinet_files self.old) in
+            let after = Some (cabinet_files self.new) in
+            Writes before after name.now bytes.now result }
+        ensures cause { HasCause Failed Memory (cabinet_faults self.old) (cabinet_faults self.new) result }
+        ensures planned { FailsAsPlanned Failed (cabinet_failing self.old) (cabinet_call self.old) result }
+        ensures failing { cabinet_failing self.new ≡ cabinet_failing self.old }
+        ensures calls { IsNextCall (cabinet_call self.old) (cabinet_call self.new) }
+    {
         if self.plan.fails_now() {
             return Err(CabinetFault::Failed);
         }

@@ -37,13 +37,24 @@ impl MemorySink {
 }
 
 impl Sink for MemorySink {
-    ghost use Rattle.mdoc_outside.specs.MemorySink.{sink_bytes, sink_faults};
+    ghost use Rattle.mdoc_outside.specs.CallPlan.{FailsAsPlanned, IsNextCall};
+    ghost use Rattle.mdoc_outside.specs.Faults.{HasCause};
+    ghost use Rattle.mdoc_outside.specs.MemorySink.{sink_bytes, sink_failing, sink_call, sink_faults};
+    ghost use Rattle.mdoc_outside.specs.Sink.{Puts};
+    ghost use Rattle.mdoc_outside.specs.declared.sink_fault.SinkFault.TheVariants.{Failed, Memory};
 
     ghost put_so_far = { λ s. Some (sink_bytes s) };
 
     ghost faults = { λ s. sink_faults s };
 
-    fn put(&mut self, bytes: &[u8]) -> Result<(), SinkFault> {
+    // The trait's clauses, and that the calls of the plan fail and no others.
+    fn put(&mut self, bytes: &[u8]) -> Result<(), SinkFault>
+        ensures bytes { Puts (Some (sink_bytes self.old)) (Some (sink_bytes self.new)) bytes.now result }
+        ensures cause { HasCause Failed Memory (sink_faults self.old) (sink_faults self.new) result }
+        ensures planned { FailsAsPlanned Failed (sink_failing self.old) (sink_call self.old) result }
+        ensures failing { sink_failing self.new ≡ sink_failing self.old }
+        ensures calls { IsNextCall (sink_call self.old) (sink_call self.new) }
+    {
         if self.plan.fails_now() {
             return Err(SinkFault::Failed);
         }
