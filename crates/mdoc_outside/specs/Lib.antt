@@ -1,10 +1,15 @@
 pub mod CallPlan
 pub mod Faults
+pub mod FileLine
+pub mod FileLines
 pub mod Files
 pub mod KeyName
 pub mod LimitName
+pub mod Lines
 pub mod MemoryCabinet
 pub mod MemorySink
 pub mod Sink
 pub mod SureCabinet
 pub mod SureSink
+pub mod WordForm
+pub mod Words
