@@ -3,8 +3,8 @@ use Rattle.std.specs.Prelude.{◌≡◌, ◌+◌, ◌-◌, ◌^◌, ◌↔◌, �
 use Rattle.mdoc_outside.specs.declared.call_plan.CallPlan.{CallPlan}
 
 -- the numbers of the calls that fail
-abbrev pub failing : CallPlan → List ℕ
-failing plan = plan.fails.items
+abbrev pub planned : CallPlan → List ℕ
+planned plan = plan.fails.items
 
 -- the number of the next call
 abbrev pub call_number : CallPlan → ℕ

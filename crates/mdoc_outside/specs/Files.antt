@@ -1,5 +1,5 @@
 -- What a cabinet holds: files, each a name and its bytes. Where two have one name the first counts.
-use Rattle.std.specs.Prelude.{◌≡◌, ℕ, List, [], ◌∷◌, Option, Some, None, Result, Ok, Err, if◌then◌else◌}
+use Rattle.std.specs.Prelude.{◌≡◌, ◌≢◌, ℕ, List, [], ◌∷◌, Option, Some, None, Result, Ok, Err, if◌then◌else◌}
 use Rattle.std.specs.Str.{bytes_eq}
 
 abbrev pub Files : Type 0
@@ -26,3 +26,14 @@ Writes None now name bytes result = now ≡ None
 Writes (Some old) None name bytes result = ⊥
 Writes (Some old) (Some new) name bytes (Ok u) = IsWritten old new name bytes
 Writes (Some old) (Some new) name bytes (Err e) = new ≡ old
+
+-- A law: the file that was written is found with its bytes.
+abbrev pub FindsWritten : Type 0
+FindsWritten =
+    (old new : Files) (name bytes : List ℕ) → IsWritten old new name bytes → file_in new name ≡ Some bytes
+
+-- A law: each file of another name is found as before.
+abbrev pub KeepsOthers : Type 0
+KeepsOthers =
+    (old new : Files) (name bytes other : List ℕ)
+    → IsWritten old new name bytes → name ≢ other → file_in new other ≡ file_in old other

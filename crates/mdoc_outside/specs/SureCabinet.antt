@@ -3,5 +3,5 @@ use Rattle.mdoc_outside.specs.Files.{Files}
 use Rattle.mdoc_outside.specs.declared.sure_cabinet.SureCabinet.{SureCabinet}
 
 -- its files
-abbrev pub sure_files : SureCabinet → Files
-sure_files cabinet = cabinet.files.items
+abbrev pub held : SureCabinet → Files
+held cabinet = cabinet.store

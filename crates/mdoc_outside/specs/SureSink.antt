@@ -2,6 +2,6 @@
 use Rattle.std.specs.Prelude.{ℕ, List}
 use Rattle.mdoc_outside.specs.declared.sure_sink.SureSink.{SureSink}
 
--- the bytes that it was given
-abbrev pub sure_bytes : SureSink → List ℕ
-sure_bytes sink = sink.bytes.items
+-- the bytes that it has taken
+abbrev pub taken : SureSink → List ℕ
+taken sink = sink.bytes.items

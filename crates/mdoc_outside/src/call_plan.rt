@@ -11,10 +11,10 @@ pub(crate) struct CallPlan {
 }
 
 impl CallPlan {
-    ghost use Rattle.mdoc_outside.specs.CallPlan.{failing, call_number, fault_count, IsNextCall};
+    ghost use Rattle.mdoc_outside.specs.CallPlan.{planned, call_number, fault_count, IsNextCall};
 
     pub(crate) fn new(fails: Vec<u64>) -> CallPlan
-        ensures failing { failing result ≡ fails.items }
+        ensures failing { planned result ≡ fails.items }
         ensures calls { call_number result ≡ 0 }
         ensures faults { fault_count result ≡ 0 }
     {
@@ -27,8 +27,8 @@ impl CallPlan {
 
     // Counts the call that begins now, and says whether it fails.
     pub(crate) fn fails_now(&mut self) -> bool
-        ensures planned { IsTrue result ↔ Contains (failing self.old) (call_number self.old) }
-        ensures failing { failing self.new ≡ failing self.old }
+        ensures planned { IsTrue result ↔ Contains (planned self.old) (call_number self.old) }
+        ensures failing { planned self.new ≡ planned self.old }
         ensures calls { IsNextCall (call_number self.old) (call_number self.new) }
         ensures faults { MatchBool result
             (Rose (fault_count self.old) (fault_count self.new))

@@ -39,7 +39,7 @@ fn without_return(line: &[u8]) -> &[u8]
 pub(crate) fn first_line(text: &[u8]) -> Option<(&[u8], &[u8])>
     ensures first { MatchOption result (lines text.now ≡ [])
         (λ found. lines text.now ≡ found.0.now ∷ lines found.1.now) }
-    ensures shorter { MatchOption result (Unit {0}) (λ found. length found.1.now < length text.now) }
+    ensures shorter { IfSome result (λ found. length found.1.now < length text.now) }
 {
     if text.is_empty() {
         return None;

@@ -13,14 +13,14 @@ pub struct MemorySink {
 }
 
 impl MemorySink {
-    ghost use Rattle.mdoc_outside.specs.MemorySink.{sink_bytes, sink_failing, sink_call, sink_faults};
+    ghost use Rattle.mdoc_outside.specs.MemorySink.{taken, failing, call, faulted};
 
     /// A sink that has taken nothing yet, and the numbers of the calls that fail.
     pub fn new(alloc: Global, fails: Vec<u64>) -> MemorySink
-        ensures bytes { sink_bytes result ≡ [] }
-        ensures failing { sink_failing result ≡ fails.items }
-        ensures calls { sink_call result ≡ 0 }
-        ensures faults { sink_faults result ≡ 0 }
+        ensures bytes { taken result ≡ [] }
+        ensures failing { failing result ≡ fails.items }
+        ensures calls { call result ≡ 0 }
+        ensures faults { faulted result ≡ 0 }
     {
         MemorySink {
             bytes: Vec::new(alloc),
@@ -30,7 +30,7 @@ impl MemorySink {
 
     /// The bytes that it has taken.
     pub fn bytes(&self) -> &[u8]
-        ensures { result.now ≡ sink_bytes self.now }
+        ensures { result.now ≡ taken self.now }
     {
         &self.bytes
     }
@@ -39,21 +39,21 @@ impl MemorySink {
 impl Sink for MemorySink {
     ghost use Rattle.mdoc_outside.specs.CallPlan.{FailsAsPlanned, IsNextCall};
     ghost use Rattle.mdoc_outside.specs.Faults.{HasCause};
-    ghost use Rattle.mdoc_outside.specs.MemorySink.{sink_bytes, sink_failing, sink_call, sink_faults};
+    ghost use Rattle.mdoc_outside.specs.MemorySink.{taken, failing, call, faulted};
     ghost use Rattle.mdoc_outside.specs.Sink.{Puts};
     ghost use Rattle.mdoc_outside.specs.declared.sink_fault.SinkFault.TheVariants.{Failed, Memory};
 
-    ghost put_so_far = { λ s. Some (sink_bytes s) };
+    ghost put_so_far = { λ s. Some (taken s) };
 
-    ghost faults = { λ s. sink_faults s };
+    ghost faults = { λ s. faulted s };
 
     // The trait's clauses, and that the calls of the plan fail and no others.
     fn put(&mut self, bytes: &[u8]) -> Result<(), SinkFault>
-        ensures bytes { Puts (Some (sink_bytes self.old)) (Some (sink_bytes self.new)) bytes.now result }
-        ensures cause { HasCause Failed Memory (sink_faults self.old) (sink_faults self.new) result }
-        ensures planned { FailsAsPlanned Failed (sink_failing self.old) (sink_call self.old) result }
-        ensures failing { sink_failing self.new ≡ sink_failing self.old }
-        ensures calls { IsNextCall (sink_call self.old) (sink_call self.new) }
+        ensures bytes { Puts (Some (taken self.old)) (Some (taken self.new)) bytes.now result }
+        ensures cause { HasCause Failed Memory (faulted self.old) (faulted self.new) result }
+        ensures planned { FailsAsPlanned Failed (failing self.old) (call self.old) result }
+        ensures failing { failing self.new ≡ failing self.old }
+        ensures calls { IsNextCall (call self.old) (call self.new) }
     {
         if self.plan.fails_now() {
             return Err(SinkFault::Failed);

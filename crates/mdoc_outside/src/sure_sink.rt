@@ -11,11 +11,11 @@ pub struct SureSink {
 }
 
 impl SureSink {
-    ghost use Rattle.mdoc_outside.specs.SureSink.{sure_bytes};
+    ghost use Rattle.mdoc_outside.specs.SureSink.{taken};
 
     /// A sink that has taken nothing yet.
     pub fn new(alloc: Global) -> SureSink
-        ensures { sure_bytes result ≡ [] }
+        ensures { taken result ≡ [] }
     {
         SureSink {
             bytes: Vec::new(alloc),
@@ -24,16 +24,16 @@ impl SureSink {
 
     /// The bytes that it has taken.
     pub fn bytes(&self) -> &[u8]
-        ensures { result.now ≡ sure_bytes self.now }
+        ensures { result.now ≡ taken self.now }
     {
         &self.bytes
     }
 }
 
 impl Sink for SureSink {
-    ghost use Rattle.mdoc_outside.specs.SureSink.{sure_bytes};
+    ghost use Rattle.mdoc_outside.specs.SureSink.{taken};
 
-    ghost put_so_far = { λ s. Some (sure_bytes s) };
+    ghost put_so_far = { λ s. Some (taken s) };
 
     ghost faults = { λ _. 0 };
 
