@@ -90,3 +90,144 @@ fn words_stand_between_spaces(rt: HostRuntime) -> Result<(), Fail> {
     assert!(rt; is_word(&[b'n'; 129]));
     Ok(())
 }
+
+// The pair of a name and its bytes.
+fn file(alloc: Global, name: &[u8], bytes: &[u8]) -> Result<(Octets, Octets), Memory> {
+    Ok((
+        Octets::copy_of(alloc, name)?,
+        Octets::copy_of(alloc, bytes)?,
+    ))
+}
+
+// What a read answered: the bytes, or `-` for no such file, `!` for a failure, `?` for want of memory.
+fn shown_read<C: Cabinet>(cabinet: &mut C, name: &str, alloc: Global) -> Result<Octets, Memory> {
+    match cabinet.read(name) {
+        Ok(Some(bytes)) => Ok(bytes),
+        Ok(None) => Octets::copy_of(alloc, b"-"),
+        Err(CabinetFault::Failed) => Octets::copy_of(alloc, b"!"),
+        Err(CabinetFault::Memory) => Octets::copy_of(alloc, b"?"),
+    }
+}
+
+#[test]
+fn cabinets_in_memory_read_what_was_written(rt: HostRuntime) -> Result<(), Fail> {
+    let alloc = rt.alloc();
+    let files = vec![in alloc; file(alloc, b"a", b"1")?, file(alloc, b"ab", b"")?]?;
+    let mut cabinet = MemoryCabinet::new(alloc, files, vec![in alloc; 0, 1, 2]?);
+    assert_eq!(rt;
+        shown_read(&mut cabinet, "a", alloc)?.as_slice(),
+        b"!".as_slice()
+    );
+    assert_eq!(rt; cabinet.write("b", b"2"), Err(CabinetFault::Failed));
+    assert_eq!(rt;
+        shown_read(&mut cabinet, "b", alloc)?.as_slice(),
+        b"!".as_slice()
+    );
+    assert_eq!(rt;
+        shown_read(&mut cabinet, "b", alloc)?.as_slice(),
+        b"-".as_slice()
+    );
+    assert_eq!(rt;
+        shown_read(&mut cabinet, "a", alloc)?.as_slice(),
+        b"1".as_slice()
+    );
+    assert_eq!(rt;
+        shown_read(&mut cabinet, "ab", alloc)?.as_slice(),
+        b"".as_slice()
+    );
+    assert_eq!(rt; cabinet.write("a", b"3"), Ok(()));
+    assert_eq!(rt;
+        shown_read(&mut cabinet, "a", alloc)?.as_slice(),
+        b"3".as_slice()
+    );
+    let mut sure = SureCabinet::new(alloc, Vec::new(alloc));
+    assert_eq!(rt;
+        shown_read(&mut sure, "a", alloc)?.as_slice(),
+        b"-".as_slice()
+    );
+    assert_eq!(rt; sure.write("a", b"4"), Ok(()));
+    assert_eq!(rt; sure.write("b", b"5"), Ok(()));
+    assert_eq!(rt;
+        shown_read(&mut sure, "a", alloc)?.as_slice(),
+        b"4".as_slice()
+    );
+    Ok(())
+}
+
+// Puts both pieces, and counts the puts that failed.
+fn failures<S: Sink>(sink: &mut S, pieces: &[&[u8]]) -> u64 {
+    let mut failed = 0u64;
+    for piece in pieces {
+        if sink.put(piece) == Err(SinkFault::Failed) {
+            failed = failed.saturating_add(1);
+        }
+    }
+    failed
+}
+
+#[test]
+fn sinks_in_memory_keep_what_was_put(rt: HostRuntime) -> Result<(), Fail> {
+    let alloc = rt.alloc();
+    let mut sink = MemorySink::new(alloc, vec![in alloc; 2, 0, 1]?);
+    assert_eq!(rt;
+        failures(&mut sink, &[b"a", b"b", b"c", b"d", b"", b"ef"]),
+        3
+    );
+    assert_eq!(rt; sink.bytes(), b"def".as_slice());
+    let mut sure = SureSink::new(alloc);
+    assert_eq!(rt; failures(&mut sure, &[b"a", b"b"]), 0);
+    assert_eq!(rt; sure.bytes(), b"ab".as_slice());
+    Ok(())
+}
+
+#[test]
+fn small_types_keep_what_they_are_given(rt: HostRuntime) -> Result<(), Fail> {
+    let alloc = rt.alloc();
+    assert_eq!(rt; Octets::copy_of(alloc, b"ab")?.as_slice(), b"ab".as_slice());
+    assert_eq!(rt;
+        Octets::from_vec(vec![in alloc; 1, 2]?).as_slice(),
+        [1, 2].as_slice()
+    );
+    let rows = Rows::from_vec(vec![in alloc; 7u64, 8]?);
+    assert_eq!(rt; rows.as_slice(), [7, 8].as_slice());
+    assert_eq!(rt; rows.into_vec().as_slice(), [7, 8].as_slice());
+    assert_eq!(rt; Word::copy_of(alloc, "--store")?.as_str(), "--store");
+    assert_eq!(rt; LimitName::ScheduleLines.text(), "ScheduleLines");
+    assert_eq!(rt; KeyName::DigestId.text(), "digestID");
+    assert_eq!(rt; KeyName::EReaderKey.text(), "eReaderKey");
+    owned_types_cross_threads::<u8>();
+    written_file_is_found();
+    Ok(())
+}
+
+#[test]
+fn the_folder_keeps_files(rt: HostRuntime) -> Result<(), Fail> {
+    let alloc = rt.alloc();
+    let mut folder = FolderCabinet::new(&rt);
+    assert_eq!(rt;
+        shown_read(&mut folder, "a.bin", alloc)?.as_slice(),
+        b"-".as_slice()
+    );
+    assert_eq!(rt; folder.write("a.bin", b"\x00\xff"), Ok(()));
+    assert_eq!(rt; folder.write("a.bin", b"\x01"), Ok(()));
+    assert_eq!(rt;
+        shown_read(&mut folder, "a.bin", alloc)?.as_slice(),
+        b"\x01".as_slice()
+    );
+    assert_eq!(rt;
+        shown_read(&mut folder, ".", alloc)?.as_slice(),
+        b"!".as_slice()
+    );
+    assert_eq!(rt;
+        folder.write("no/such/folder", b""),
+        Err(CabinetFault::Failed)
+    );
+    Ok(())
+}
+
+#[test]
+fn standard_output_takes_bytes(rt: HostRuntime) -> Result<(), Fail> {
+    let mut out = OutSink::new(&rt);
+    assert_eq!(rt; failures(&mut out, &[b"core ", b"", b"a0\n"]), 0);
+    Ok(())
+}
