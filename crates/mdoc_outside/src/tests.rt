@@ -2,6 +2,7 @@
 // and the real cabinet and sink.
 use crate::*;
 use std::alloc::Global;
+use std::process::Abort;
 use std::test::Fail;
 
 // The lines that are kept of a text, each as its number, a colon, its bytes and a bar.
@@ -99,58 +100,76 @@ fn file(alloc: Global, name: &[u8], bytes: &[u8]) -> Result<(Octets, Octets), Me
     ))
 }
 
-// What a read answered: the bytes, or `-` for no such file, `!` for a failure, `?` for want of memory.
-fn shown_read<C: Cabinet>(cabinet: &mut C, name: &str, alloc: Global) -> Result<Octets, Memory> {
-    match cabinet.read(name) {
-        Ok(Some(bytes)) => Ok(bytes),
-        Ok(None) => Octets::copy_of(alloc, b"-"),
-        Err(CabinetFault::Failed) => Octets::copy_of(alloc, b"!"),
-        Err(CabinetFault::Memory) => Octets::copy_of(alloc, b"?"),
+// A call of a cabinet: a write of some bytes, else a read; and what it is to answer, as below.
+#[derive(Clone, Copy)]
+struct Step<'a>(&'a str, Option<&'a [u8]>, &'a [u8]);
+
+// What the call answered: the bytes read, `-` for no such file, `=` for bytes written, `!` for a
+// failure and `?` for want of memory.
+fn answer<C: Cabinet>(alloc: Global, cabinet: &mut C, step: &Step) -> Result<Octets, Memory> {
+    let fault = match step.1 {
+        Some(bytes) => match cabinet.write(step.0, bytes) {
+            Ok(()) => return Octets::copy_of(alloc, b"="),
+            Err(fault) => fault,
+        },
+        None => match cabinet.read(step.0) {
+            Ok(Some(bytes)) => return Ok(bytes),
+            Ok(None) => return Octets::copy_of(alloc, b"-"),
+            Err(fault) => fault,
+        },
+    };
+    match fault {
+        CabinetFault::Failed => Octets::copy_of(alloc, b"!"),
+        CabinetFault::Memory => Octets::copy_of(alloc, b"?"),
     }
+}
+
+fn make_steps<C: Cabinet>(
+    rt: &impl Abort,
+    alloc: Global,
+    cabinet: &mut C,
+    steps: &[Step],
+) -> Result<(), Memory> {
+    for step in steps {
+        assert_eq!(rt;
+            answer(alloc, cabinet, step)?.as_slice(),
+            step.2,
+            "at {:?}",
+            step.0
+        );
+    }
+    Ok(())
 }
 
 #[test]
 fn cabinets_in_memory_read_what_was_written(rt: HostRuntime) -> Result<(), Fail> {
     let alloc = rt.alloc();
     let files = vec![in alloc; file(alloc, b"a", b"1")?, file(alloc, b"ab", b"")?]?;
+    let steps = [
+        Step("a", None, b"!"),
+        Step("b", Some(b"2"), b"!"),
+        Step("b", None, b"!"),
+        Step("b", None, b"-"),
+        Step("a", None, b"1"),
+        Step("ab", None, b""),
+        Step("a", Some(b"3"), b"="),
+        Step("a", None, b"3"),
+        Step("ab", None, b""),
+    ];
     let mut cabinet = MemoryCabinet::new(alloc, files, vec![in alloc; 0, 1, 2]?);
-    assert_eq!(rt;
-        shown_read(&mut cabinet, "a", alloc)?.as_slice(),
-        b"!".as_slice()
-    );
-    assert_eq!(rt; cabinet.write("b", b"2"), Err(CabinetFault::Failed));
-    assert_eq!(rt;
-        shown_read(&mut cabinet, "b", alloc)?.as_slice(),
-        b"!".as_slice()
-    );
-    assert_eq!(rt;
-        shown_read(&mut cabinet, "b", alloc)?.as_slice(),
-        b"-".as_slice()
-    );
-    assert_eq!(rt;
-        shown_read(&mut cabinet, "a", alloc)?.as_slice(),
-        b"1".as_slice()
-    );
-    assert_eq!(rt;
-        shown_read(&mut cabinet, "ab", alloc)?.as_slice(),
-        b"".as_slice()
-    );
-    assert_eq!(rt; cabinet.write("a", b"3"), Ok(()));
-    assert_eq!(rt;
-        shown_read(&mut cabinet, "a", alloc)?.as_slice(),
-        b"3".as_slice()
-    );
-    let mut sure = SureCabinet::new(alloc, Vec::new(alloc));
-    assert_eq!(rt;
-        shown_read(&mut sure, "a", alloc)?.as_slice(),
-        b"-".as_slice()
-    );
-    assert_eq!(rt; sure.write("a", b"4"), Ok(()));
-    assert_eq!(rt; sure.write("b", b"5"), Ok(()));
-    assert_eq!(rt;
-        shown_read(&mut sure, "a", alloc)?.as_slice(),
-        b"4".as_slice()
-    );
+    make_steps(&rt, alloc, &mut cabinet, &steps)?;
+    let steps = [
+        Step("a", None, b"-"),
+        Step("a", Some(b"4"), b"="),
+        Step("b", Some(b"5"), b"="),
+        Step("a", None, b"4"),
+    ];
+    make_steps(
+        &rt,
+        alloc,
+        &mut SureCabinet::new(alloc, Vec::new(alloc)),
+        &steps,
+    )?;
     Ok(())
 }
 
@@ -202,26 +221,15 @@ fn small_types_keep_what_they_are_given(rt: HostRuntime) -> Result<(), Fail> {
 
 #[test]
 fn the_folder_keeps_files(rt: HostRuntime) -> Result<(), Fail> {
-    let alloc = rt.alloc();
-    let mut folder = FolderCabinet::new(&rt);
-    assert_eq!(rt;
-        shown_read(&mut folder, "a.bin", alloc)?.as_slice(),
-        b"-".as_slice()
-    );
-    assert_eq!(rt; folder.write("a.bin", b"\x00\xff"), Ok(()));
-    assert_eq!(rt; folder.write("a.bin", b"\x01"), Ok(()));
-    assert_eq!(rt;
-        shown_read(&mut folder, "a.bin", alloc)?.as_slice(),
-        b"\x01".as_slice()
-    );
-    assert_eq!(rt;
-        shown_read(&mut folder, ".", alloc)?.as_slice(),
-        b"!".as_slice()
-    );
-    assert_eq!(rt;
-        folder.write("no/such/folder", b""),
-        Err(CabinetFault::Failed)
-    );
+    let steps = [
+        Step("no such file", None, b"-"),
+        Step("a.bin", Some(b"\x00\xff"), b"="),
+        Step("a.bin", Some(b"\x01"), b"="),
+        Step("a.bin", None, b"\x01"),
+        Step(".", None, b"!"),
+        Step("no/such/folder", Some(b""), b"!"),
+    ];
+    make_steps(&rt, rt.alloc(), &mut FolderCabinet::new(&rt), &steps)?;
     Ok(())
 }
 
