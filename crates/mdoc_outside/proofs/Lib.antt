@@ -1,3 +1,4 @@
 mod LineSteps
 mod Splits
 mod WordSteps
+mod Written

@@ -1,5 +1,6 @@
 -- What a cabinet holds: files, each a name and its bytes. Where two have one name the first counts.
-use Rattle.std.specs.Prelude.{◌≡◌, ◌≢◌, ℕ, List, [], ◌∷◌, Option, Some, None, Result, Ok, Err, if◌then◌else◌}
+use Rattle.std.specs.Prelude.{◌≡◌, ◌≢◌, ◌<◌, ℕ, length, take, true, List, [], ◌∷◌, Option, Some, None, Result, Ok, Err, if◌then◌else◌}
+use Rattle.std.specs.List.{HoldsAt}
 use Rattle.std.specs.Str.{bytes_eq}
 
 abbrev pub Files : Type 0
@@ -9,6 +10,12 @@ Files = List (List ℕ × List ℕ)
 abbrev pub file_in : Files → List ℕ → Option (List ℕ)
 file_in [] name = None
 file_in (file ∷ files) name = if bytes_eq file.0 name then Some file.1 else file_in files name
+
+-- the place of the first file of that name
+pub record IsPlaceOf (files : Files) (name : List ℕ) (place : ℕ) : Type 0 where
+  pub within : place < length files
+  pub first : file_in (take place files) name ≡ None
+  pub named : HoldsAt (λ file. bytes_eq file.0 name ≡ true) files place
 
 -- What a read of a name finds, in a cabinet that tells what it holds (and anything, in one that doesn't).
 abbrev pub Reads : Option Files → List ℕ → Option (List ℕ) → Type 0

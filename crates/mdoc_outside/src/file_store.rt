@@ -1,7 +1,6 @@
 // Files in memory, by name.
-ghost use Rattle.std.specs.Prelude.{◌≡◌, ℕ, List, IfOk, OnOk, OnErr};
-ghost use Rattle.std.specs.Option.{option_copied};
-ghost use Rattle.mdoc_outside.specs.Files.{Files, file_in, IsWritten};
+ghost use Rattle.std.specs.Prelude.{◌≡◌, ℕ, List, None, IfOk, IfNone, IfSome, OnOk, OnErr};
+ghost use Rattle.mdoc_outside.specs.Files.{Files, file_in, IsPlaceOf, IsWritten};
 
 use crate::{Memory, Octets};
 use std::alloc::Global;
@@ -20,13 +19,15 @@ impl Model for FileStore {
     ghost view = { λ s. s.files.items };
 }
 
-// The bytes of the file of that name.
-fn find<'a>(files: &'a [(Octets, Octets)], name: &[u8]) -> Option<&'a Octets>
-    ensures { option_copied result ≡ file_in files.now name.now }
+// The place of the first file of that name.
+#[tactic(auto, using(crate::proofs::Written::absent_more))]
+fn place_of(files: &[(Octets, Octets)], name: &[u8]) -> Option<usize>
+    ensures absent { IfNone result (file_in files.now name.now ≡ None) }
+    ensures place { IfSome result (IsPlaceOf files.now name.now) }
 {
-    for file in files {
+    for (place, file) in files.iter().enumerate() {
         if file.0.as_slice() == name {
-            return Some(&file.1);
+            return Some(place);
         }
     }
     None
@@ -43,20 +44,26 @@ impl FileStore {
     pub(crate) fn read(&self, name: &str) -> Result<Option<Octets>, Memory>
         ensures { IfOk result (λ found. found ≡ file_in self.now name.now) }
     {
-        match find(&self.files, name.as_bytes()) {
-            Some(bytes) => Ok(Some(Octets::copy_of(self.alloc, bytes.as_slice())?)),
+        match place_of(&self.files, name.as_bytes()) {
+            Some(place) => Ok(Some(Octets::copy_of(self.alloc, self.files[place].1.as_slice())?)),
             None => Ok(None),
         }
     }
 
     // Puts the bytes under that name, in place of what was there.
+    #[tactic(auto, using(crate::proofs::Written::added_in, crate::proofs::Written::replaced_in))]
     pub(crate) fn write(&mut self, name: &str, bytes: &[u8]) -> Result<(), Memory>
         ensures written { OnOk result (IsWritten self.old self.new name.now bytes.now) }
         ensures unfed { OnErr result (self.new ≡ self.old) }
     {
-        let name = Octets::copy_of(self.alloc, name.as_bytes())?;
         let bytes = Octets::copy_of(self.alloc, bytes)?;
-        self.files.insert(0, (name, bytes))?;
+        match place_of(&self.files, name.as_bytes()) {
+            Some(place) => self.files[place].1 = bytes,
+            None => {
+                let name = Octets::copy_of(self.alloc, name.as_bytes())?;
+                self.files.push((name, bytes))?;
+            }
+        }
         Ok(())
     }
 }
