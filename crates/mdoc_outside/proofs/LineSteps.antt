@@ -27,3 +27,6 @@ line_passed n text line rest e passed = rw (e, passed) refl
 pub lines_end : (n : ℕ) (text : List ℕ) → lines text ≡ [] → lines_from n text ≡ []
 unfolding lines_from
 lines_end n text e = rw e refl
+
+-- what the function that takes one off wants
+pub ruleset line_steps = (line_kept, line_passed, lines_end)

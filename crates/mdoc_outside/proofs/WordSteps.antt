@@ -49,3 +49,6 @@ pub words_last : (bytes line : List ℕ) → line ≡ after_spaces bytes → (le
 unfolding words
 words_last bytes [] is some e = cc
 words_last bytes (b ∷ line) is some e = sym (words_after bytes) ∙ ap words (sym is) ∙ ap (filter is_part) e
+
+-- what the function that takes one off wants
+pub ruleset word_steps = (words_none, words_first, words_last)

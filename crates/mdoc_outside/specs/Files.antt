@@ -17,7 +17,7 @@ pub record IsPlaceOf (files : Files) (name : List ℕ) (place : ℕ) : Type 0 wh
   pub first : file_in (take place files) name ≡ None
   pub named : HoldsAt (λ file. bytes_eq file.0 name ≡ true) files place
 
--- What a read of a name finds, in a cabinet that tells what it holds (and anything, in one that doesn't).
+-- What a read of a name finds in a cabinet that tells what it holds; one that doesn't finds anything.
 abbrev pub Reads : Option Files → List ℕ → Option (List ℕ) → Type 0
 Reads None name found = Unit {0}
 Reads (Some files) name found = found ≡ file_in files name
@@ -25,10 +25,12 @@ Reads (Some files) name found = found ≡ file_in files name
 -- the new files are the old ones with these bytes under that name
 abbrev pub IsWritten : Files → Files → List ℕ → List ℕ → Type 0
 IsWritten old new name bytes =
-    (other : List ℕ) → file_in new other ≡ (if bytes_eq name other then Some bytes else file_in old other)
+    (other : List ℕ)
+    → file_in new other ≡ (if bytes_eq name other then Some bytes else file_in old other)
 
--- What a write leaves: a cabinet that tells goes on telling, and one that doesn't goes on not telling.
-abbrev pub Writes : {E : Type 0} → Option Files → Option Files → List ℕ → List ℕ → Result (Unit {0}) E → Type 0
+-- What a write leaves. A cabinet that tells goes on telling, and one that doesn't goes on not telling.
+abbrev pub Writes : {E : Type 0} → Option Files → Option Files → List ℕ → List ℕ
+    → Result (Unit {0}) E → Type 0
 Writes None now name bytes result = now ≡ None
 Writes (Some old) None name bytes result = ⊥
 Writes (Some old) (Some new) name bytes (Ok u) = IsWritten old new name bytes
@@ -37,7 +39,8 @@ Writes (Some old) (Some new) name bytes (Err e) = new ≡ old
 -- A law: the file that was written is found with its bytes.
 abbrev pub FindsWritten : Type 0
 FindsWritten =
-    (old new : Files) (name bytes : List ℕ) → IsWritten old new name bytes → file_in new name ≡ Some bytes
+    (old new : Files) (name bytes : List ℕ)
+    → IsWritten old new name bytes → file_in new name ≡ Some bytes
 
 -- A law: each file of another name is found as before.
 abbrev pub KeepsOthers : Type 0

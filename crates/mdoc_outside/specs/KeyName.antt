@@ -1,4 +1,5 @@
--- The text keys of the maps of ISO/IEC 18013-5, sections 8.3 and 9.1, and of the store file.
+-- The text keys of the maps of ISO/IEC 18013-5 (request and response: 8.3.2.1.2, session: 9.1.1.4,
+-- security object: 9.1.2.4) and of this project's store file.
 use Rattle.std.specs.Prelude.{ℕ, List, codes}
 use Rattle.mdoc_outside.specs.declared.key_name.KeyName.{KeyName}
 use Rattle.mdoc_outside.specs.declared.key_name.KeyName.TheVariants.{DigestId, Random, ElementIdentifier, ElementValue, Version, DigestAlgorithm, ValueDigests, DeviceKeyInfo, DeviceKey, DocType, ValidityInfo, Signed, ValidFrom, ValidUntil, ExpectedUpdate, DocRequests, ItemsRequest, ReaderAuth, NameSpaces, RequestInfo, Documents, DocumentErrors, Status, IssuerSigned, DeviceSigned, Errors, IssuerAuth, DeviceAuth, DeviceSignature, DeviceMac, EReaderKey, Data, Auth, Copies, Key, Used}

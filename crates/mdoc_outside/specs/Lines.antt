@@ -1,5 +1,6 @@
--- The lines of this project's line files, and the words of a line. A line ends with a line feed (10), and the
--- last one needs none. A carriage return (13) before the line feed is dropped. All lines are numbered from 1.
+-- The lines of this project's line files, and the words of a line. A line ends with a line feed
+-- (0a), and the last one needs none. A carriage return (0d) before the line feed is dropped.
+-- All lines are numbered from 1.
 use Rattle.std.specs.Prelude.{ℕ, ◌==◌, List, [], ◌∷◌, Bool, true, false, if◌then◌else◌, filter, map, not, reverse}
 use Rattle.std.specs.List.{enumerate_from, slice_split}
 use Rattle.std.specs.Str.Lines.{lines}
@@ -8,7 +9,7 @@ pub record Line : Type 0 where
   pub number : ℕ
   pub bytes : List ℕ
 
--- without the spaces (32) in front
+-- without the spaces (20) in front
 abbrev pub after_spaces : List ℕ → List ℕ
 after_spaces [] = []
 after_spaces (b ∷ bytes) = if b == 32 then after_spaces bytes else b ∷ bytes
@@ -21,7 +22,7 @@ before_spaces bytes = reverse (after_spaces (reverse bytes))
 abbrev pub trimmed : List ℕ → List ℕ
 trimmed bytes = before_spaces (after_spaces bytes)
 
--- blank lines, and those that begin with # (35), are passed over
+-- blank lines, and those that begin with # (23), are passed over
 abbrev pub is_kept : List ℕ → Bool
 is_kept [] = false
 is_kept (b ∷ bytes) = not (b == 35)

@@ -24,7 +24,7 @@ impl<'a> Iterator for FileLines<'a> {
 
     ghost remaining = { item_count lines_left };
 
-    #[tactic(auto, using(crate::proofs::LineSteps::line_kept, crate::proofs::LineSteps::line_passed, crate::proofs::LineSteps::lines_end))]
+    #[tactic(auto, using(crate::proofs::LineSteps::line_steps))]
     fn next(&mut self) -> Option<FileLine<'a>> {
         while let Some((line, rest)) = first_line(self.rest) {
             *self = FileLines {

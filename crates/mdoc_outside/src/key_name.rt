@@ -1,7 +1,8 @@
-// A text key of the maps of ISO/IEC 18013-5 (section 8.3) and of the store file.
+// The text keys of maps.
 ghost use Rattle.std.specs.Prelude.{◌≡◌};
 
-/// A text key of the maps of ISO/IEC 18013-5 (section 8.3) and of the store file.
+/// A text key of the maps of ISO/IEC 18013-5 (request and response: 8.3.2.1.2, session: 9.1.1.4,
+/// security object: 9.1.2.4) and of this project's store file.
 #[derive(Clone, Copy, Debug, PartialEq, Eq)]
 pub enum KeyName {
     DigestId,

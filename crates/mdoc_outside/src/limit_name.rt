@@ -1,4 +1,4 @@
-// The name of a limit that a file, a store or a session may pass.
+// The names of limits.
 ghost use Rattle.std.specs.Prelude.{◌≡◌};
 
 /// The name of a limit that a file, a store or a session may pass.

@@ -58,7 +58,8 @@ impl Cabinet for MemoryCabinet {
 
     // The same of a write.
     fn write(&mut self, name: &str, bytes: &[u8]) -> Result<(), CabinetFault>
-        ensures files { Writes (Some (held self.old)) (Some (held self.new)) name.now bytes.now result }
+        ensures files { Writes (Some (held self.old)) (Some (held self.new))
+            name.now bytes.now result }
         ensures cause { HasCause Failed Memory (faulted self.old) (faulted self.new) result }
         ensures planned { FailsAsPlanned Failed (failing self.old) (call self.old) result }
         ensures failing { failing self.new ≡ failing self.old }

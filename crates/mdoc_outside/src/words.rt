@@ -13,7 +13,7 @@ pub struct Words<'a> {
 }
 
 // The first word and what stands behind it.
-#[tactic(auto, using(crate::proofs::WordSteps::words_none, crate::proofs::WordSteps::words_first, crate::proofs::WordSteps::words_last))]
+#[tactic(auto, using(crate::proofs::WordSteps::word_steps))]
 fn first_word(bytes: &[u8]) -> Option<(&[u8], &[u8])>
     ensures { MatchOption result (words bytes.now ≡ [])
         (λ found. words bytes.now ≡ found.0.now ∷ words found.1.now) }
