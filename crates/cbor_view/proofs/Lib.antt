@@ -1,0 +1,10 @@
+mod Cases
+pub mod Steps
+pub mod HeadReading
+pub mod ItemReading
+pub mod WholeReading
+pub mod Splitting
+pub mod Stepping
+pub mod Listing
+pub mod Places
+pub mod ShortestSpelling

@@ -1,0 +1,10 @@
+pub mod Tree
+pub mod Label
+pub mod Spelling
+pub mod Shortest
+pub mod Reading
+pub mod Parts
+pub mod Opening
+pub mod View
+pub mod Items
+pub mod Pairs

@@ -1,0 +1,39 @@
+//! Laws of spellings (RFC 8949, section 3). Each is the contract of a function that does nothing.
+
+ghost use Rattle.std.specs.Prelude.{◌≡◌, ◌↔◌, ℕ, ◌≤◌, List, [], ◌++◌, length, Ok};
+ghost use Rattle.cbor_view.specs.Tree.{Tree, levels};
+ghost use Rattle.cbor_view.specs.Spelling.{AreBytes, Spells, Fits};
+ghost use Rattle.cbor_view.specs.Shortest.{shortest};
+ghost use Rattle.cbor_view.specs.Reading.{reads};
+ghost use Rattle.cbor_view.specs.Parts.{Part, LiesIn};
+
+/// Bytes spell at most one tree.
+pub fn one_tree()
+    ensures { (bytes : List ℕ) (t u : Tree) → Spells bytes t → Spells bytes u → t ≡ u }
+{}
+
+/// No spelling is a proper prefix of another.
+pub fn no_prefix()
+    ensures { (xs ys : List ℕ) (t u : Tree) → Spells xs t → Spells (xs ++ ys) u → ys ≡ [] }
+{}
+
+/// The reading of bytes gives a tree exactly where they spell it.
+pub fn reads_spelled()
+    ensures { (bytes : List ℕ) (t : Tree) → AreBytes bytes → (reads bytes ≡ Ok t) ↔ Spells bytes t }
+{}
+
+/// The shortest spelling of a tree (RFC 8949, section 4.2.1) spells it.
+pub fn shortest_spells()
+    ensures { (t : Tree) → Fits t → levels t ≤ 32 → Spells (shortest t) t }
+{}
+
+/// A tree that is spelled fits, and no spelling of it has fewer bytes than the shortest.
+pub fn shortest_least()
+    ensures fits { (xs : List ℕ) (t : Tree) → Spells xs t → Fits t }
+    ensures least { (xs : List ℕ) (t : Tree) → Spells xs t → length (shortest t) ≤ length xs }
+{}
+
+/// A part of a part of an item stands within the item.
+pub fn within_within()
+    ensures { (a b c : Part) → LiesIn a b → LiesIn b c → LiesIn a c }
+{}
