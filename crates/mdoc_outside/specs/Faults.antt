@@ -14,4 +14,4 @@ pub record HasCause {T E : Type 0} (failed memory : E) (before now : ℕ) (resul
   pub rose : IsErrOf result failed → Rose before now
   -- each other answer leaves it
   pub done : OnOk result (now ≡ before)
-  pub unfed : IsErrOf result memory → now ≡ before
+  pub out_of_memory : IsErrOf result memory → now ≡ before

@@ -8,6 +8,8 @@ pub mod LimitName
 pub mod Lines
 pub mod MemoryCabinet
 pub mod MemorySink
+pub mod OptionSteps
+pub mod ResultSteps
 pub mod Sink
 pub mod SureCabinet
 pub mod SureSink

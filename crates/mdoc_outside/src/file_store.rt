@@ -54,7 +54,7 @@ impl FileStore {
     #[tactic(auto, using(crate::proofs::Written::added_in, crate::proofs::Written::replaced_in))]
     pub(crate) fn write(&mut self, name: &str, bytes: &[u8]) -> Result<(), Memory>
         ensures written { OnOk result (IsWritten self.old self.new name.now bytes.now) }
-        ensures unfed { OnErr result (self.new ≡ self.old) }
+        ensures out_of_memory { OnErr result (self.new ≡ self.old) }
     {
         let bytes = Octets::copy_of(self.alloc, bytes)?;
         match place_of(&self.files, name.as_bytes()) {

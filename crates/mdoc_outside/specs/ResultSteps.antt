@@ -1,0 +1,13 @@
+-- Steps that may fail, one behind the other.
+use Rattle.std.specs.Prelude.{Option, Some, None, Result, Ok, Err}
+
+-- the first fault, or what the next step gives
+infixl 10 ◌>>=◌
+abbrev pub ◌>>=◌ : {A B E : Type 0} → Result A E → (A → Result B E) → Result B E
+(Ok value) >>= step = step value
+(Err fault) >>= step = Err fault
+
+-- a value, or this fault where there is none
+abbrev pub or_fault : {A E : Type 0} → E → Option A → Result A E
+or_fault fault None = Err fault
+or_fault fault (Some value) = Ok value
