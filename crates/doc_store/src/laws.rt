@@ -1,0 +1,27 @@
+// What holds of the definitions alone.
+ghost use Rattle.std.specs.Prelude.{◌≡◌, Some, []};
+ghost use Rattle.doc_store.specs.Agreement.{SamePlaces, SamePresence};
+ghost use Rattle.doc_store.specs.Store.{store};
+ghost use Rattle.doc_store.specs.declared.laws.TheConstants.{EMPTY_STORE};
+
+/// The store with no document, in its shortest spelling.
+pub const EMPTY_STORE: [u8; 21] = [
+    0xa2, 0x67, 0x76, 0x65, 0x72, 0x73, 0x69, 0x6f, 0x6e, 0x01, 0x69, 0x64, 0x6f, 0x63, 0x75, 0x6d,
+    0x65, 0x6e, 0x74, 0x73, 0x80,
+];
+
+/// The law that `EMPTY_STORE` spells the store with no document.
+#[tactic(auto, using(crate::proofs::StoreLemmas::store_empty))]
+pub fn empty_store()
+    ensures { store EMPTY_STORE ≡ Some [] }
+{}
+
+/// The law that stores which agree show the same places.
+pub fn same_places()
+    ensures { SamePlaces }
+{}
+
+/// The law that stores which agree hold an item at the same places, whatever it says.
+pub fn same_presence()
+    ensures { SamePresence }
+{}
