@@ -1,0 +1,9 @@
+pub mod AgreeLemmas
+pub mod EachLine
+pub mod FileFaults
+pub mod FileStepLemmas
+pub mod NothingReleased
+pub mod RequestLemmas
+pub mod RunLemmas
+pub mod StoreFileLemmas
+pub mod WishNames

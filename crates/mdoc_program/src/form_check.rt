@@ -1,0 +1,22 @@
+// Why a file is outside its form.
+ghost use Rattle.std.specs.Prelude.{Some};
+ghost use Rattle.mdoc_program.specs.Status.{check_text};
+
+use std::fmt;
+
+/// Why a file is outside its form.
+#[derive(Clone, Copy, Debug, PartialEq, Eq)]
+pub enum FormCheck {
+    /// It is outside its grammar or past a limit.
+    Unread,
+}
+
+impl fmt::Display for FormCheck {
+    ghost output = { λ check. Some (check_text check) };
+
+    fn fmt<W: fmt::Write>(&self, f: &mut fmt::Formatter<W>) -> fmt::Result {
+        match self {
+            FormCheck::Unread => f.write_str("Unread"),
+        }
+    }
+}

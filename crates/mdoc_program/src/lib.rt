@@ -1,0 +1,44 @@
+//! The commands of the program `mdoc` over objects that are handed in, with the session theorem on the one
+//! call `run`: what `draft` prints is what the holder's rules release, and every other answer has its cause.
+#![tactic(auto)]
+
+mod doc_draft;
+mod draft;
+mod draft_order;
+mod drafted;
+mod file_fault;
+mod form_check;
+mod open_document;
+mod reader_pattern;
+mod reading;
+mod request_draft;
+mod response_core;
+mod role;
+mod rule;
+mod rule_fault;
+mod rule_line;
+mod rules;
+mod status;
+mod text_pattern;
+mod top_call;
+mod wish;
+mod wish_draft;
+mod wish_line;
+mod wishes;
+mod word_list;
+
+pub use doc_draft::DocDraft;
+pub use file_fault::FileFault;
+pub use form_check::FormCheck;
+pub use reader_pattern::ReaderPattern;
+pub use request_draft::RequestDraft;
+pub use role::Role;
+pub use rule::Rule;
+pub use rule_fault::RuleFault;
+pub use rules::Rules;
+pub use status::Status;
+pub use text_pattern::TextPattern;
+pub use top_call::run;
+pub use wish::Wish;
+pub use wish_draft::WishDraft;
+pub use wishes::read_wishes;
