@@ -1,0 +1,129 @@
+// The command `draft`.
+use crate::outcome::{Named, outcome_of};
+use std::test::Fail;
+
+// {"version": 1, "documents": []}
+const EMPTY: &[u8] = b"\xa2\x67version\x01\x69documents\x80";
+
+const WORDS: &str = "draft --store s --wishes w --rules r";
+
+const WISHES: &[u8] = b"document d\nwant n a 0\n";
+
+const RULES: &[u8] = b"allow * * * * *\n";
+
+const FILES: &[Named<'static>] = &[("s", EMPTY), ("w", WISHES), ("r", RULES)];
+
+// The core {"documentErrors": [{"d": 0}]}.
+const PRINTED: &str = "core a16e646f63756d656e744572726f727381a1616400\n";
+
+#[test]
+fn the_empty_store(rt: HostRuntime) -> Result<(), Fail> {
+    let alloc = rt.alloc();
+    let no_rules: &[Named<'_>] = &[("s", EMPTY), ("w", WISHES), ("r", b"")];
+    let two: &[Named<'_>] = &[
+        ("s", EMPTY),
+        (
+            "w",
+            b"document d\nwant n a 0\ndocument e\nwant n a 1\nwant m a 0\n",
+        ),
+        ("r", RULES),
+    ];
+    let two_errors = "core a16e646f63756d656e744572726f727382a1616400a1616500\n";
+    for (files, printed) in [(FILES, PRINTED), (no_rules, PRINTED), (two, two_errors)] {
+        let outcome = outcome_of(alloc, WORDS, files, &[], &[])?;
+        assert_eq!(rt; outcome.status.as_str(), "Done");
+        assert_eq!(rt; outcome.printed.as_slice(), printed.as_bytes());
+    }
+    Ok(())
+}
+
+#[test]
+fn words(rt: HostRuntime) -> Result<(), Fail> {
+    let alloc = rt.alloc();
+    for (words, status) in [
+        ("draft --rules r --store s --wishes w", "Done"),
+        ("", "Usage"),
+        ("draft", "Usage"),
+        ("daft --store s --wishes w --rules r", "Usage"),
+        ("draft --store s --wishes w", "Usage"),
+        ("draft --store s --wishes w --rules", "Usage"),
+        ("draft --store s --wishes w --rules r more", "Usage"),
+        ("draft --store s --wishes w --rules r --moment 0", "Usage"),
+        ("draft --store s --wishes w --rules r --rules r", "Usage"),
+        ("draft --store s --store s --wishes w", "Usage"),
+        ("draft --store s --wishes w --roots r", "Usage"),
+        ("draft --store -s --wishes w --rules r", "Usage"),
+        ("draft --store --wishes --wishes w --rules r", "Usage"),
+        ("draft store s wishes w rules r", "Usage"),
+        ("draft --store s --wishes w --rules absent", "Missing Rules"),
+        (
+            "draft --store s --wishes absent --rules absent",
+            "Missing Wishes",
+        ),
+        (
+            "draft --store absent --wishes absent --rules r",
+            "Missing Store",
+        ),
+        (
+            "draft --store w --wishes absent --rules r",
+            "Form Store Unread 0",
+        ),
+        (
+            "draft --store s --wishes r --rules absent",
+            "Form Wishes Unread 0",
+        ),
+        (
+            "draft --store s --wishes w --rules w",
+            "Form Rules Unread 0",
+        ),
+    ] {
+        let outcome = outcome_of(alloc, words, FILES, &[], &[])?;
+        assert_eq!(rt; outcome.status.as_str(), status, "{words}");
+        assert_eq!(rt; outcome.printed.is_empty(), status != "Done", "{words}");
+    }
+    Ok(())
+}
+
+#[test]
+fn failing_calls(rt: HostRuntime) -> Result<(), Fail> {
+    let alloc = rt.alloc();
+    for call in 0u64..4 {
+        let outcome = outcome_of(alloc, WORDS, FILES, &[call], &[])?;
+        let status = if call < 3 { "Cabinet" } else { "Done" };
+        assert_eq!(rt;
+            outcome.status.as_str(),
+            status,
+            "the cabinet's call {call}"
+        );
+        assert_eq!(rt;
+            outcome.printed.is_empty(),
+            call < 3,
+            "the cabinet's call {call}"
+        );
+    }
+    for call in 0u64..3 {
+        let outcome = outcome_of(alloc, WORDS, FILES, &[], &[call])?;
+        let status = if call < 1 { "Sink" } else { "Done" };
+        assert_eq!(rt; outcome.status.as_str(), status, "the sink's call {call}");
+        assert_eq!(rt;
+            outcome.printed.is_empty(),
+            call < 1,
+            "the sink's call {call}"
+        );
+    }
+    Ok(())
+}
+
+#[test]
+fn files_that_are_too_long(rt: HostRuntime) -> Result<(), Fail> {
+    let alloc = rt.alloc();
+    let mut longest = b"# a comment, and then spaces\n".to_vec(alloc)?;
+    longest.resize(16_777_216, b' ')?;
+    for (more, status) in [(0, "Done"), (1, "Form Rules Unread 0")] {
+        longest.resize(16_777_216 + more, b' ')?;
+        let files: &[Named<'_>] = &[("s", EMPTY), ("w", WISHES), ("r", longest.as_slice())];
+        let outcome = outcome_of(alloc, WORDS, files, &[], &[])?;
+        assert_eq!(rt; outcome.status.as_str(), status);
+    }
+    Ok(())
+}

@@ -1,0 +1,9 @@
+//! Worked cases that cross crates, as tests alone.
+#![tactic(auto)]
+
+#[cfg(test)]
+mod draft;
+#[cfg(test)]
+mod line_files;
+#[cfg(test)]
+mod outcome;
