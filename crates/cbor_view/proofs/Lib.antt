@@ -8,3 +8,4 @@ pub mod Stepping
 pub mod Listing
 pub mod Places
 pub mod ShortestSpelling
+pub mod Depth

@@ -327,6 +327,7 @@ fn goes_under_tags(rt: HostRuntime) -> Result<(), Fail> {
     let (number, inner) = embedded.tag().ok_or("a tag")?;
     assert_eq!(rt; (number, inner.span()), (24, (2, 6)));
     assert_eq!(rt; inner.bytes(), Some(b"\xa1\x01\x02".as_slice()));
+    assert_eq!(rt; (embedded.depth(), inner.depth()), (1, 0));
     crosses();
     Ok(())
 }

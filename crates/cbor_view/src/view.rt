@@ -147,6 +147,13 @@ impl<'a> View<'a> {
         }
     }
 
+    /// How deep arrays, maps and tags are nested in the item, 0 where it is none of them.
+    pub fn depth(&self) -> u32
+        ensures { result ≡ levels (tree self.now) }
+    {
+        depth_of(self.slice)
+    }
+
     /// The items of an array (major type 4).
     pub fn items(&self) -> Option<Items<'a>>
         ensures exact { option_map trees_left result ≡ items_of (tree self.now) }
@@ -245,4 +252,16 @@ fn split_head(item: &[u8]) -> (Head, &[u8])
         Ok(split) => split,
         Err(_) => unreachable!(),
     }
+}
+
+/// How deep an item that was read is nested.
+fn depth_of(item: &[u8]) -> u32
+    requires { IsOk (reads item.now) }
+    ensures { result ≡ levels (tree_of item.now) }
+{
+    let mut depth = 0;
+    while skip(item, depth).is_err() {
+        depth += 1;
+    }
+    depth
 }
