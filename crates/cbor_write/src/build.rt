@@ -1,7 +1,9 @@
 // Bytes of CBOR that are being written.
 ghost use Rattle.std.specs.Prelude.{◌≡◌, ◌^◌, ◌<◌, ◌≤◌, ℕ, List, [], ◌++◌, length, OnOk, OnErr};
 ghost use Rattle.cbor_view.specs.Shortest.{shortest_head, uint_bytes, text_bytes};
+ghost use Rattle.cbor_view.specs.View.{part};
 
+use cbor_view::View;
 use mdoc_outside::{Memory, Octets};
 use std::alloc::Global;
 use std::marker::Model;
@@ -70,6 +72,14 @@ impl Build {
         ensures err { OnErr result (self.new ≡ self.old) }
     {
         self.head(MAP, u64::from(count))
+    }
+
+    /// Appends a view's item as the very bytes that spell it.
+    pub fn raw(&mut self, view: &View<'_>) -> Result<(), Memory>
+        ensures ok { OnOk result (self.new ≡ self.old ++ (part view.now).bytes) }
+        ensures err { OnErr result (self.new ≡ self.old) }
+    {
+        self.append(view.raw())
     }
 
     /// The bytes that were written, without taking memory.
