@@ -1,3 +1,4 @@
+pub mod Cases
 pub mod Core
 pub mod Draft
 pub mod DraftOrder

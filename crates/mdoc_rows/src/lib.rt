@@ -7,3 +7,5 @@ mod draft;
 mod line_files;
 #[cfg(test)]
 mod outcome;
+#[cfg(test)]
+mod writing;
