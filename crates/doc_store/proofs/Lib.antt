@@ -1,2 +1,8 @@
 pub mod AgreeLemmas
+pub mod ByFields
+pub mod EachPart
+pub mod HeldItems
+pub mod Namespaces
+pub mod Readers
 pub mod StoreLemmas
+pub mod StoreParts

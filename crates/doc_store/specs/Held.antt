@@ -1,5 +1,5 @@
 -- What a store holds: a document by its type, the copy of it to show, an item by its place.
-use Rattle.std.specs.Prelude.{ℕ, List, Bool, false, not, ◌&&◌, Option, Some, None, unwrap_or, slice_get, position, find, option_map}
+use Rattle.std.specs.Prelude.{◌≡◌, ℕ, List, Bool, false, not, ◌&&◌, Option, Some, None, unwrap_or, slice_get, position, find, option_map}
 use Rattle.std.specs.Str.{bytes_eq}
 use Rattle.mdoc_outside.specs.OptionSteps.{◌>>=◌}
 use Rattle.doc_store.specs.Item.{Item, item}
@@ -18,13 +18,30 @@ is_item ns name stored = bytes_eq stored.0 ns && is_named name (item stored.1)
 abbrev pub held : Copy → List ℕ → List ℕ → Option (List ℕ)
 held copy ns name = option_map (λ (stored : List ℕ × List ℕ). stored.1) (find (is_item ns name) copy.items)
 
--- The place of the document of that type.
+-- whether a document is of that type
+abbrev pub is_of_type : List ℕ → Document → Bool
+is_of_type doc_type document = bytes_eq document.doc_type doc_type
+
+-- The document of that type, and its place.
+abbrev pub document_found : Store → List ℕ → Option Document
+document_found documents doc_type = find (is_of_type doc_type) documents
+
 abbrev pub document_place : Store → List ℕ → Option ℕ
-document_place documents doc_type = position (λ (document : Document). bytes_eq document.doc_type doc_type) documents
+document_place documents doc_type = position (is_of_type doc_type) documents
+
+-- A document of that type, at the place of that type.
+pub record IsAt (documents : Store) (doc_type : List ℕ) (document : Document) : Type 0 where
+  pub at : ℕ
+  pub place : document_place documents doc_type ≡ Some at
+  pub there : slice_get documents at ≡ Some document
+
+-- whether a copy is unused
+abbrev pub is_unused : Copy → Bool
+is_unused copy = not copy.used
 
 -- The place of the copy to show: the first unused one, or the first where all are used.
 abbrev pub chosen : Document → ℕ
-chosen document = unwrap_or (position (λ (copy : Copy). not copy.used) document.copies) 0
+chosen document = unwrap_or (position is_unused document.copies) 0
 
 -- A place of an item: its document, the copy of it, and the item's namespace and name.
 pub record Place : Type 0 where

@@ -1,5 +1,15 @@
 pub mod Agreement
+pub mod CopyForm
+pub mod Document
+pub mod DocumentForm
 pub mod Fields
 pub mod Held
+pub mod HeldItem
 pub mod Item
+pub mod ItemView
+pub mod Namespace
+pub mod Parts
 pub mod Store
+pub mod StoreFault
+pub mod StoreView
+pub mod StoredCopy

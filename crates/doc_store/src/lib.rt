@@ -1,8 +1,33 @@
-//! The store of a holder: its documents, the copies of each, and the issuer-signed items of a copy as they are stored.
+//! The store of a holder: its documents, the copies of each, and the issuer-signed items of a copy
+//! as they are stored.
 //!
-//! The one contract: what is read of a store are the parts that its definition gives, as slices of the stored bytes.
+//! The one contract: a file is read exactly where it spells a store within the limits, and what is
+//! read of it are the parts that its definition gives, as slices of the stored bytes.
 #![tactic(auto)]
 
+mod copy_form;
+mod document;
+mod document_form;
+mod fields;
+mod held_item;
+mod item;
 mod laws;
+mod limits;
+mod listing;
+mod named_item;
+mod namespace;
+mod parts;
+mod sharing;
+mod store;
+mod store_fault;
+mod stored_copy;
 
+pub use document::Document;
 pub use laws::{EMPTY_STORE, empty_store, same_places, same_presence};
+pub use sharing::crosses;
+pub use store::Store;
+pub use store_fault::StoreFault;
+pub use stored_copy::StoredCopy;
+
+#[cfg(test)]
+mod tests;

@@ -1,0 +1,144 @@
+-- The items that a copy holds, a namespace at a time.
+use Rattle.std.proofs.Common.{◌≡◌, ℕ, Bool, true, false, ◌&&◌, cond, List, [], ◌∷◌, ◌++◌, length, map, Option, Some, None, refl, sym, ap, ◌∙◌}
+use Rattle.std.specs.Prelude.{is_some, option_map, unwrap_or, find, nat_le}
+use Rattle.std.specs.List.{flat_map}
+use Rattle.std.specs.Option.{option_or}
+use Rattle.std.specs.Str.{bytes_eq}
+use Rattle.std.proofs.lemmas.List.Folds.{find-append}
+use Rattle.cbor_view.specs.Label.{is_words}
+use Rattle.cbor_view.specs.Parts.{Part, text_in, items_in}
+use Rattle.mdoc_outside.specs.OptionSteps.{◌>>=◌, where_true, each}
+use Rattle.doc_store.specs.Fields.{are_distinct}
+use Rattle.doc_store.specs.Held.{is_named, is_item}
+use Rattle.doc_store.specs.HeldItem.{no_space, held_by, raws_in, is_raw}
+use Rattle.doc_store.specs.Item.{Item, item}
+use Rattle.doc_store.specs.Parts.{said_by}
+use Rattle.doc_store.specs.Store.{name_in, within, named_item, namespace, spread, items_of}
+
+abbrev Named : Type 0
+Named = List ℕ × List ℕ
+
+abbrev Space : Type 0
+Space = List ℕ × List (List ℕ)
+
+-- ---- the namespaces of a copy
+
+pub record Spaces (entries : List (Part × Part)) (items : List Named) : Type 0 where
+  pub read : is_some (each namespace entries) ≡ true
+  pub all : items ≡ flat_map spread (unwrap_or (each namespace entries) [])
+
+-- the items of a copy are those of its namespaces
+pub items_spaces : (entries : List (Part × Part)) (items : List Named) → items_of entries ≡ Some items → Spaces entries items
+items_spaces entries items said = by_count (nat_le 0 (length entries) && nat_le (length entries) 16) said where
+  by_within : (spaces : List Space) (b : Bool) → each namespace entries ≡ Some spaces → where_true b (flat_map spread spaces) ≡ Some items → Spaces entries items
+  by_within spaces false each_is e = cc
+  by_within spaces true each_is e = record { read = rw each_is refl; all = let same : items ≡ flat_map spread spaces = cc in rw (each_is, same) refl }
+
+  by_names : (spaces : List Space) (d : Bool) → each namespace entries ≡ Some spaces →
+      (where_true d spaces >>= λ distinct. within 0 512 (flat_map spread distinct)) ≡ Some items → Spaces entries items
+  by_names spaces false each_is e = cc
+  by_names spaces true each_is e = by_within spaces _ each_is e
+
+  by_spaces : (o : Option (List Space)) → each namespace entries ≡ o →
+      (o >>= λ spaces. where_true (are_distinct (map (λ (space : Space). space.0) spaces)) spaces >>= λ distinct. within 0 512 (flat_map spread distinct)) ≡ Some items →
+      Spaces entries items
+  by_spaces None each_is e = cc
+  by_spaces (Some spaces) each_is e = by_names spaces _ each_is e
+
+  by_count : (b : Bool) →
+      ((where_true b entries >>= each namespace) >>= λ spaces. where_true (are_distinct (map (λ (space : Space). space.0) spaces)) spaces >>= λ distinct. within 0 512 (flat_map spread distinct)) ≡ Some items →
+      Spaces entries items
+  by_count false e = cc
+  by_count true e = by_spaces (each namespace entries) refl e
+
+-- ---- one namespace and those behind it
+
+abbrev pub held_all : List ℕ → List ℕ → List Space → Option (List ℕ)
+held_all ns name spaces = option_map (λ (stored : Named). stored.1) (find (is_item ns name) (flat_map spread spaces))
+
+map-or : {A B : Type 0} (f : A → B) (o p : Option A) → option_map f (option_or o p) ≡ option_or (option_map f o) (option_map f p)
+map-or f None p = refl
+map-or f (Some x) p = refl
+
+pub held_all_step : (ns name : List ℕ) (space : Space) (spaces : List Space) →
+    held_all ns name (space ∷ spaces) ≡ option_or (held_by ns name space) (held_all ns name spaces)
+held_all_step ns name space spaces =
+    ap (option_map (λ (stored : Named). stored.1)) (find-append (is_item ns name) (spread space) (flat_map spread spaces))
+    ∙ map-or (λ (stored : Named). stored.1) (find (is_item ns name) (spread space)) (find (is_item ns name) (flat_map spread spaces))
+
+-- ---- the items of one namespace
+
+find-spread : (ns name own : List ℕ) (raws : List (List ℕ)) (b : Bool) → bytes_eq own ns ≡ b →
+    option_map (λ (stored : Named). stored.1) (find (is_item ns name) (map (λ raw. (own, raw)) raws)) ≡ cond b (find (is_raw name) raws) None
+find-spread ns name own [] true e = refl
+find-spread ns name own [] false e = refl
+find-spread ns name own (raw ∷ raws) true e = rw e (step (is_named name (item raw)) (find-spread ns name own raws true e)) where
+  step : (t : Bool) → option_map (λ (stored : Named). stored.1) (find (is_item ns name) (map (λ raw. (own, raw)) raws)) ≡ find (is_raw name) raws →
+      option_map (λ (stored : Named). stored.1) (cond t (Some (own, raw)) (find (is_item ns name) (map (λ raw. (own, raw)) raws))) ≡ cond t (Some raw) (find (is_raw name) raws)
+  step true rest = refl
+  step false rest = rest
+find-spread ns name own (raw ∷ raws) false e = rw e (find-spread ns name own raws false e)
+
+-- an item is stored as the bytes of its part
+each-raw : (parts : List Part) (items : List Named) → each named_item parts ≡ Some items →
+    map (λ (named : Named). named.1) items ≡ map (λ (p : Part). p.bytes) parts
+each-raw [] items said = let same : items ≡ [] = cc in rw same refl
+each-raw (p ∷ parts) items said = go (item p.bytes) (each named_item parts) (each-raw parts) said where
+  by_size : (read : Item) (b : Bool) (rest : Option (List Named)) → ((rest_items : List Named) → rest ≡ Some rest_items → map (λ (named : Named). named.1) rest_items ≡ map (λ (q : Part). q.bytes) parts) →
+      (where_true b (read.name, p.bytes) >>= λ x. rest >>= λ xs. Some (x ∷ xs)) ≡ Some items →
+      map (λ (named : Named). named.1) items ≡ map (λ (q : Part). q.bytes) (p ∷ parts)
+  by_size read false rest known e = cc
+  by_size read true None known e = cc
+  by_size read true (Some rest_items) known e =
+      let same : items ≡ (read.name, p.bytes) ∷ rest_items = cc in
+      rw same (ap (λ raws. p.bytes ∷ raws) (known rest_items refl))
+
+  go : (o : Option Item) (rest : Option (List Named)) → ((rest_items : List Named) → rest ≡ Some rest_items → map (λ (named : Named). named.1) rest_items ≡ map (λ (q : Part). q.bytes) parts) →
+      ((o >>= λ read. where_true (nat_le (length read.name) 128 && nat_le (length read.value) 262144) (read.name, p.bytes)) >>= λ x. rest >>= λ xs. Some (x ∷ xs)) ≡ Some items →
+      map (λ (named : Named). named.1) items ≡ map (λ (q : Part). q.bytes) (p ∷ parts)
+  go None rest known e = cc
+  go (Some read) rest known e = by_size read _ rest known e
+
+-- a namespace by its parts
+abbrev distinct : List Named → Bool
+distinct items = are_distinct (map (λ (named : Named). named.0) items)
+
+abbrev made : Bool → List ℕ → List Named → Option Space
+made test own items = where_true test (own, map (λ (named : Named). named.1) items)
+
+abbrev space_of : Option (List ℕ) → Option (List Part) → Option Space
+space_of own parts = own >>= λ name. (parts >>= each named_item) >>= λ items. made (distinct items) name items
+
+abbrev found_in : List ℕ → List ℕ → Option Space → Option (List ℕ)
+found_in ns name o = held_by ns name (unwrap_or o no_space)
+
+abbrev raws_of : List Part → List (List ℕ)
+raws_of parts = map (λ (p : Part). p.bytes) parts
+
+-- a namespace holds the item where its name is the one, and its items are those of the array
+pub held_here : (ns name : List ℕ) (key value : Part) → is_some {T = Space} (namespace (key, value)) ≡ true →
+    held_by ns name (said_by no_space namespace (key, value)) ≡ cond (is_words ns (text_in key)) (find (is_raw name) (raws_in value)) None
+held_here ns name key value read = by_text (text_in key) (items_in value) read where
+  by_last : (own : List ℕ) (parts : List Part) (items : List Named) (d : Bool) → each named_item parts ≡ Some items →
+      is_some (made d own items) ≡ true →
+      found_in ns name (made d own items) ≡ cond (bytes_eq own ns) (find (is_raw name) (raws_of parts)) None
+  by_last own parts items false each_is e = cc
+  by_last own parts items true each_is e = rw (each-raw parts items each_is) (find-spread ns name own (raws_of parts) (bytes_eq own ns) refl)
+
+  by_items : (own : List ℕ) (parts : List Part) (o : Option (List Named)) → each named_item parts ≡ o →
+      is_some (o >>= λ items. made (distinct items) own items) ≡ true →
+      found_in ns name (o >>= λ items. made (distinct items) own items) ≡ cond (bytes_eq own ns) (find (is_raw name) (raws_of parts)) None
+  by_items own parts None each_is e = cc
+  by_items own parts (Some items) each_is e = by_last own parts items _ each_is e
+
+  by_array : (own : List ℕ) (b : Bool) (o : Option (List Part)) → is_some (space_of (where_true b own) o) ≡ true →
+      found_in ns name (space_of (where_true b own) o) ≡ cond (bytes_eq own ns) (find (is_raw name) (raws_of (unwrap_or o []))) None
+  by_array own false o e = cc
+  by_array own true None e = cc
+  by_array own true (Some parts) e = by_items own parts (each named_item parts) refl e
+
+  by_text : (t : Option (List ℕ)) (o : Option (List Part)) →
+      is_some (space_of (t >>= λ own. where_true (nat_le (length own) 128) own) o) ≡ true →
+      found_in ns name (space_of (t >>= λ own. where_true (nat_le (length own) 128) own) o) ≡ cond (is_words ns t) (find (is_raw name) (raws_of (unwrap_or o []))) None
+  by_text None o e = cc
+  by_text (Some own) o e = by_array own (nat_le (length own) 128) o e

@@ -1,0 +1,91 @@
+-- What the parts of a thing that was read say.
+use Rattle.std.proofs.Common.{◌≡◌, ℕ, zero, ◌+◌, ◌-◌, ◌<◌, ◌≤◌, suc, Bool, true, false, ◌&&◌, cond, List, [], ◌∷◌, ◌++◌, length, map, Option, Some, None, refl, sym, ap, ◌∙◌, arith}
+use Rattle.std.specs.Prelude.{is_some, option_map, unwrap_or, slice_get, nat_le, nat_lt, find, position}
+use Rattle.std.specs.List.{position_or_len}
+use Rattle.std.proofs.lemmas.Bool.Decides.{nat_tests}
+use Rattle.mdoc_outside.specs.OptionSteps.{◌>>=◌, where_true, each}
+use Rattle.doc_store.specs.Parts.{said_by}
+
+-- ---- the parts of a list
+
+pub record First {A B : Type 0} (step : A → Option B) (d : B) (x : A) (xs : List A) : Type 0 where
+  pub said : step x ≡ Some (said_by d step x)
+  pub read : is_some (step x) ≡ true
+  pub rest : is_some (each step xs) ≡ true
+  pub whole : unwrap_or (each step (x ∷ xs)) [] ≡ said_by d step x ∷ unwrap_or (each step xs) []
+
+-- the first part of a list whose parts can be read
+pub first_of_each : {A B : Type 0} (step : A → Option B) (d : B) (x : A) (xs : List A) → is_some (each step (x ∷ xs)) ≡ true → First step d x xs
+first_of_each {A} {B} step d x xs read = go (step x) (each step xs) refl refl read where
+  go : (o : Option B) (rest : Option (List B)) → step x ≡ o → each step xs ≡ rest →
+      is_some (o >>= λ y. rest >>= λ ys. Some (y ∷ ys)) ≡ true → First step d x xs
+  go None rest one more e = cc
+  go (Some y) None one more e = cc
+  go (Some y) (Some ys) one more e = record {
+    said = rw one refl;
+    read = rw one refl;
+    rest = rw more refl;
+    whole = rw (one, more) refl;
+  }
+
+-- the part at a place
+pub each-get : {A B : Type 0} (step : A → Option B) (d : B) (xs : List A) (n : ℕ) → is_some (each step xs) ≡ true →
+    slice_get (unwrap_or (each step xs) []) n ≡ option_map (said_by d step) (slice_get xs n)
+each-get step d [] n read = refl
+each-get step d (x ∷ xs) zero read = let first = first_of_each step d x xs read in rw first.whole refl
+each-get step d (x ∷ xs) (suc n) read = let first = first_of_each step d x xs read in rw first.whole (each-get step d xs n first.rest)
+
+pub each-get-read : {A B : Type 0} (step : A → Option B) (xs : List A) (n : ℕ) (x : A) → is_some (each step xs) ≡ true →
+    slice_get xs n ≡ Some x → is_some (step x) ≡ true
+each-get-read step [] n x read at = cc
+each-get-read {A} {B} step (y ∷ xs) zero x read at = go (step y) refl read where
+  go : (o : Option B) → step y ≡ o → is_some (o >>= λ z. each step xs >>= λ ys. Some (z ∷ ys)) ≡ true → is_some (step x) ≡ true
+  go None one e = cc
+  go (Some z) one e = let same : y ≡ x = cc in rw (← same, one) refl
+each-get-read {A} {B} step (y ∷ xs) (suc n) x read at = each-get-read step xs n x (go (step y) (each step xs) refl read) at where
+  go : (o : Option B) (rest : Option (List B)) → each step xs ≡ rest → is_some (o >>= λ z. rest >>= λ ys. Some (z ∷ ys)) ≡ true → is_some (each step xs) ≡ true
+  go None rest more e = cc
+  go (Some z) None more e = cc
+  go (Some z) (Some ys) more e = rw more refl
+
+pub record At {A B : Type 0} (step : A → Option B) (d : B) (ys : List B) (n : ℕ) (x : A) : Type 0 where
+  pub said : slice_get ys n ≡ Some (said_by d step x)
+  pub read : is_some (step x) ≡ true
+
+-- what the part at a place says is at that place
+pub each_at : {A B : Type 0} (step : A → Option B) (d : B) (xs : List A) (ys : List B) (n : ℕ) (x : A) →
+    each step xs ≡ Some ys → slice_get xs n ≡ Some x → At step d ys n x
+each_at {A} {B} step d xs ys n x said at =
+    let read : is_some (each step xs) ≡ true = rw said refl in
+    let got : slice_get (unwrap_or (each step xs) []) n ≡ option_map (said_by d step) (slice_get xs n) = each-get step d xs n read in
+    record {
+      said = sym (ap (λ (o : Option (List B)). slice_get (unwrap_or o []) n) said) ∙ got ∙ ap (option_map (said_by d step)) at;
+      read = each-get-read step xs n x read at;
+    }
+
+-- there is a part at each place within
+pub none_at : {A B : Type 0} (step : A → Option B) (xs : List A) (ys : List B) (n : ℕ) →
+    each step xs ≡ Some ys → n < length ys → slice_get xs n ≡ None → ⊥
+none_at step [] ys n said within at = let same : ys ≡ [] = cc in absurd (omega (arith, ap length same))
+none_at {A} {B} step (x ∷ xs) ys zero said within at = cc
+none_at {A} {B} step (x ∷ xs) ys (suc n) said within at =
+    go (step x) (each step xs) (λ zs more less. none_at step xs zs n more less at) said where
+      go : (o : Option B) (rest : Option (List B)) → ((zs : List B) → rest ≡ Some zs → n < length zs → ⊥) → (o >>= λ z. rest >>= λ zs. Some (z ∷ zs)) ≡ Some ys → ⊥
+      go None rest known e = cc
+      go (Some z) None known e = cc
+      go (Some z) (Some zs) known e =
+          let same : ys ≡ z ∷ zs = cc in
+          known zs refl (omega (arith, ap length same))
+
+-- one place further
+pub slice_get_later : {A : Type 0} (x : A) (xs : List A) (n : ℕ) → 0 < n → slice_get (x ∷ xs) n ≡ slice_get xs (n - 1)
+slice_get_later x xs zero later = absurd (omega arith)
+slice_get_later x xs (suc n) later = let less : suc n - 1 ≡ n = omega arith in rw less refl
+
+-- ---- the first that passes
+
+-- a test of the first part and of those behind it
+pub position-step : {A : Type 0} (test : A → Bool) (x : A) (xs : List A) (passed : ℕ) (b : Bool) → test x ≡ b →
+    passed + position_or_len test (x ∷ xs) ≡ cond b passed (passed + 1 + position_or_len test xs)
+position-step test x xs passed true e = rw e (omega arith)
+position-step test x xs passed false e = rw e (omega arith)

@@ -1,0 +1,66 @@
+//! The namespaces of a copy.
+
+ghost use Rattle.std.specs.Prelude.{◌≡◌, ◌≤◌, IfOk, is_some};
+ghost use Rattle.cbor_view.specs.Pairs.{pairs_left};
+ghost use Rattle.cbor_view.specs.View.{part};
+ghost use Rattle.doc_store.specs.Namespace.{counted};
+ghost use Rattle.doc_store.specs.Store.{items_of};
+ghost use Rattle.doc_store.specs.StoreFault.{Reads, Tells};
+
+use crate::StoreFault;
+use crate::fields::are_distinct;
+use crate::limits::{MOST_ITEMS, MOST_NAMESPACES};
+use crate::named_item::read_item_names;
+use crate::parts::{is_pair_count_within, items_within, read_name};
+use cbor_view::{Pairs, View};
+use std::alloc::Global;
+
+/// Whether the namespaces of a copy are in their form.
+pub(crate) fn check_namespaces(alloc: Global, spaces: Pairs<'_>) -> Result<(), StoreFault>
+    ensures { Tells result (is_some (items_of (pairs_left spaces.entry))) }
+{
+    if !is_pair_count_within(spaces, MOST_NAMESPACES) {
+        return Err(StoreFault::Unread);
+    }
+    let mut names = Vec::new(alloc);
+    let mut room = MOST_ITEMS;
+    for (name, items) in spaces {
+        match read_namespace(alloc, &name, &items, room) {
+            Ok((name, count)) => {
+                names.push(name)?;
+                room -= count;
+            }
+            Err(StoreFault::Unread) => return Err(StoreFault::Unread),
+            Err(StoreFault::Memory) => return Err(StoreFault::Memory),
+        }
+    }
+    if are_distinct(&names) {
+        Ok(())
+    } else {
+        Err(StoreFault::Unread)
+    }
+}
+
+#[tactic(auto, using(crate::proofs::Namespaces::counted_within))]
+/// The name of a namespace that has so many items at most, and how many these are.
+fn read_namespace<'a>(
+    alloc: Global,
+    name: &View<'a>,
+    items: &View<'a>,
+    most: usize,
+) -> Result<(&'a str, usize), StoreFault>
+    ensures read { Reads (λ s. (s.0.now, s.1)) result (counted most (part name.now, part items.now)) }
+    ensures within { IfOk result (λ s. s.1 ≤ most) }
+{
+    let Some(name) = read_name(name) else {
+        return Err(StoreFault::Unread);
+    };
+    let Some(items) = items_within(items, 0, most) else {
+        return Err(StoreFault::Unread);
+    };
+    match read_item_names(alloc, items) {
+        Ok(names) if are_distinct(&names) => Ok((name, names.len())),
+        Ok(_) | Err(StoreFault::Unread) => Err(StoreFault::Unread),
+        Err(StoreFault::Memory) => Err(StoreFault::Memory),
+    }
+}

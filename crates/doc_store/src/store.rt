@@ -1,0 +1,95 @@
+//! The store of a holder.
+
+ghost use Rattle.std.specs.Prelude.{◌≡◌, ◌<◌, ◌≤◌, true, Some, None, MatchOption, is_some, length, option_map, slice_get};
+ghost use Rattle.cbor_view.specs.Items.{left};
+ghost use Rattle.mdoc_outside.specs.OptionSteps.{each};
+ghost use Rattle.doc_store.specs.Document.{document_of};
+ghost use Rattle.doc_store.specs.Held.{IsAt, document_found, document_place};
+ghost use Rattle.doc_store.specs.Store.{document, store};
+ghost use Rattle.doc_store.specs.StoreFault.{Reads};
+
+use crate::StoreFault;
+use crate::document::Document;
+use crate::document_form::{read_doc_types, read_documents, read_version};
+use crate::fields::are_distinct;
+use crate::listing::{count_of, item_at};
+use cbor_view::{Items, View};
+use std::alloc::Global;
+
+/// A store: the documents of a holder, as their bytes spell them. It keeps the bytes, and looks at them anew in each
+/// call.
+#[derive(Clone, Copy)]
+pub struct Store<'a> {
+    bytes: &'a [u8],
+    ghost spelled: { is_some (store bytes.now) ≡ true },
+}
+
+impl<'a> Store<'a> {
+    ghost use Rattle.doc_store.specs.StoreView.{documents_in};
+
+    /// The store that a file spells.
+    #[tactic(auto, unfolding(crate::specs::Store::store))]
+    pub fn read(alloc: Global, bytes: &'a [u8]) -> Result<Store<'a>, StoreFault>
+        ensures { Reads documents_in result (store bytes.now) }
+    {
+        let Ok(file) = View::read(bytes) else {
+            return Err(StoreFault::Unread);
+        };
+        if read_version(&file).is_none() {
+            return Err(StoreFault::Unread);
+        }
+        let Some(documents) = read_documents(&file) else {
+            return Err(StoreFault::Unread);
+        };
+        match read_doc_types(alloc, documents) {
+            Ok(types) if are_distinct(&types) => Ok(Store { bytes }),
+            Ok(_) | Err(StoreFault::Unread) => Err(StoreFault::Unread),
+            Err(StoreFault::Memory) => Err(StoreFault::Memory),
+        }
+    }
+    /// How many documents there are, at most 16.
+    pub fn documents(&self) -> usize
+        ensures { result ≡ length (documents_in self.now) }
+    {
+        count_of(self.stored_documents())
+    }
+
+    /// The document at a place, in the order of the file.
+    pub fn document(&self, n: usize) -> Document<'a>
+        requires { n < length (documents_in self.now) }
+        ensures { slice_get (documents_in self.now) n ≡ Some (document_of result) }
+    {
+        match item_at(self.stored_documents(), n) {
+            Some(stored) => Document { stored },
+            None => unreachable!(),
+        }
+    }
+
+    /// The document of a type, if there is one.
+    pub fn find(&self, doc_type: &str) -> Option<Document<'a>>
+        ensures found { option_map document_of result ≡ document_found (documents_in self.now) doc_type.now }
+        ensures placed { MatchOption result (document_place (documents_in self.now) doc_type.now ≡ None) (λ d. IsAt (documents_in self.now) doc_type.now (document_of d)) }
+    {
+        for stored in self.stored_documents() {
+            let document = Document { stored };
+            if document.doc_type() == doc_type {
+                return Some(document);
+            }
+        }
+        None
+    }
+
+    fn stored_documents(&self) -> Items<'a>
+        ensures said { each document (left result) ≡ Some (documents_in self.now) }
+        ensures few { length (left result) ≤ 64 }
+        ensures count { length (documents_in self.now) ≡ length (left result) }
+    {
+        match View::read(self.bytes) {
+            Ok(file) => match read_documents(&file) {
+                Some(documents) => documents,
+                None => unreachable!(),
+            },
+            Err(_) => unreachable!(),
+        }
+    }
+}
