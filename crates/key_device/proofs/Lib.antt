@@ -1,0 +1,8 @@
+pub mod PlanLemmas
+mod SameAsk
+mod Splits
+mod TapeAnswers
+mod TapeFileLemmas
+mod TapeLineLemmas
+mod TapeTextLemmas
+mod TapeWordLemmas

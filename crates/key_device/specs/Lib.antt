@@ -1,0 +1,11 @@
+pub mod Asking
+pub mod Plan
+pub mod Question
+pub mod Recording
+pub mod ReplayDevice
+pub mod Tape
+pub mod TapeFile
+pub mod TapeLine
+pub mod TapeText
+pub mod Toy
+pub mod ToyDevice

@@ -1,0 +1,43 @@
+//! Key devices: who makes keys, agrees on secrets, signs and verifies for the mobile driving
+//! licence, behind one trait. A recorder keeps what was asked and told; a replaying device answers
+//! from such a recording; a toy device, which gives no security, serves tests. Its one contract:
+//! a call of a recorder adds to its talk exactly the question that was asked with what the device
+//! gave, and the definitions that ask questions are plans of which such a talk is a walk.
+#![tactic(auto)]
+
+mod ask;
+mod device_fault;
+mod exchange;
+mod key_device;
+mod laws;
+mod made;
+mod point;
+mod question;
+mod recorder;
+mod replay_device;
+mod tape_fault;
+mod tape_file;
+mod tape_line;
+mod tape_text;
+mod tape_words;
+mod threads;
+mod told;
+mod toy_device;
+mod toy_formulas;
+
+pub use ask::Ask;
+pub use device_fault::DeviceFault;
+pub use exchange::Exchange;
+pub use key_device::KeyDevice;
+pub use laws::followed_plan_over_its_talk;
+pub use made::Made;
+pub use point::Point;
+pub use recorder::Recorder;
+pub use replay_device::ReplayDevice;
+pub use tape_fault::TapeFault;
+pub use threads::devices_cross_threads;
+pub use told::Told;
+pub use toy_device::ToyDevice;
+
+#[cfg(test)]
+mod tests;

@@ -1,0 +1,126 @@
+// A device that keeps what was asked and told.
+ghost use Rattle.std.specs.Prelude.{◌≡◌, ◌≤◌, [], length, drop, IfOk};
+
+use crate::tape_text::tape_text;
+use crate::{Ask, DeviceFault, Exchange, KeyDevice, Made, Point, Told};
+use mdoc_outside::{Memory, Octets};
+use std::alloc::Global;
+
+/// A key device that asks the one it wraps, and keeps each question with what was told.
+#[derive(Drop)]
+pub struct Recorder<D> {
+    device: D,
+    talk: Vec<Exchange>,
+    alloc: Global,
+}
+
+impl<D> Recorder<D> {
+    ghost use Rattle.key_device.specs.Recording.{talk, inner};
+    ghost use Rattle.key_device.specs.TapeText.{tape_text};
+
+    /// A recorder round a device, with an empty talk.
+    pub fn new(alloc: Global, device: D) -> Recorder<D>
+        ensures talk { talk result ≡ [] }
+        ensures device { inner result ≡ device }
+    {
+        Recorder {
+            device,
+            talk: Vec::new(alloc),
+            alloc,
+        }
+    }
+
+    /// What was asked and told so far.
+    pub fn talk(&self) -> &[Exchange]
+        ensures { result.now ≡ talk self.now }
+    {
+        &self.talk
+    }
+
+    /// The tape file of the exchanges from that place on. It refuses for want of memory alone.
+    pub fn tape(&self, from: usize) -> Result<Octets, Memory>
+        requires { from ≤ length (talk self.now) }
+        ensures { IfOk result (λ tape. tape ≡ tape_text (drop from (talk self.now))) }
+    {
+        Ok(Octets::from_vec(tape_text(self.alloc, &self.talk[from..])?))
+    }
+}
+
+impl<D: KeyDevice> KeyDevice for Recorder<D> {
+    ghost use Rattle.key_device.specs.Recording.{inner, Records, IsSameTalk};
+
+    ghost gives = { Records D.gives };
+
+    ghost unasked = { IsSameTalk D.unasked };
+
+    ghost faults = { λ r. D.faults (inner r) };
+
+    fn fresh(&mut self) -> Result<Made, DeviceFault> {
+        self.talk.reserve(1)?;
+        let answer = self.device.fresh();
+        let told = match answer {
+            Ok(made) => Told::Made(made),
+            Err(DeviceFault::Failed) => Told::Failed,
+            Err(DeviceFault::Memory) => return Err(DeviceFault::Memory),
+        };
+        self.talk.push_reserved(Exchange {
+            ask: Ask::Fresh,
+            told,
+        });
+        answer
+    }
+
+    fn agree(&mut self, key: u32, peer: &Point) -> Result<Option<[u8; 32]>, DeviceFault> {
+        self.talk.reserve(1)?;
+        let answer = self.device.agree(key, peer);
+        let told = match answer {
+            Ok(Some(secret)) => Told::Secret(secret),
+            Ok(None) => Told::Refused,
+            Err(DeviceFault::Failed) => Told::Failed,
+            Err(DeviceFault::Memory) => return Err(DeviceFault::Memory),
+        };
+        self.talk.push_reserved(Exchange {
+            ask: Ask::Agree(key, *peer),
+            told,
+        });
+        answer
+    }
+
+    fn sign(&mut self, key: u32, message: &[u8]) -> Result<[u8; 64], DeviceFault> {
+        self.talk.reserve(1)?;
+        let kept = Octets::copy_of(self.alloc, message)?;
+        let answer = self.device.sign(key, message);
+        let told = match answer {
+            Ok(signature) => Told::Signature(signature),
+            Err(DeviceFault::Failed) => Told::Failed,
+            Err(DeviceFault::Memory) => return Err(DeviceFault::Memory),
+        };
+        self.talk.push_reserved(Exchange {
+            ask: Ask::Sign(key, kept),
+            told,
+        });
+        answer
+    }
+
+    fn verify(
+        &mut self,
+        public: &Point,
+        message: &[u8],
+        signature: &[u8; 64],
+    ) -> Result<bool, DeviceFault> {
+        self.talk.reserve(1)?;
+        let kept = Octets::copy_of(self.alloc, message)?;
+        let answer = self.device.verify(public, message, signature);
+        let told = match answer {
+            Ok(true) => Told::Yes,
+            Ok(false) => Told::No,
+            Err(DeviceFault::Failed) => Told::Failed,
+            Err(DeviceFault::Memory) => return Err(DeviceFault::Memory),
+        };
+        self.talk.push_reserved(Exchange {
+            ask: Ask::Verify(*public, kept, *signature),
+            told,
+        });
+        answer
+    }
+}

@@ -1,0 +1,98 @@
+// The words of a line of a tape file.
+ghost use Rattle.std.specs.Prelude.{◌≡◌, ◌==◌, ℕ, List, map, IfOk};
+ghost use Rattle.std.specs.Borrow.{Bor};
+ghost use Rattle.std.specs.List.{slice_split, list_all};
+ghost use Rattle.std.specs.Char.{is_ascii_digit};
+ghost use Rattle.std.specs.Str.{bytes_eq};
+ghost use Rattle.key_device.specs.TapeLine.{is_decimal, number_of, is_lower_digit, bytes_of, message_of};
+
+use hex::FromHexError;
+use mdoc_outside::{Memory, Octets};
+use std::alloc::{AllocError, Global};
+use std::str;
+
+// What stands between single spaces.
+pub(crate) fn word_list<'a>(alloc: Global, line: &'a [u8]) -> Result<Vec<&'a [u8]>, AllocError>
+    ensures { IfOk result (λ list. map (λ (word : Bor (List ℕ)). word.now) list.items
+        ≡ slice_split (λ byte. byte == 32) line.now) }
+{
+    line.split(|byte| *byte == b' ').collect(alloc)
+}
+
+// Whether a word is that text.
+pub(crate) fn is_text(word: &[u8], text: &[u8]) -> bool
+    ensures { result ≡ bytes_eq word.now text.now }
+{
+    word == text
+}
+
+fn is_digits(word: &[u8]) -> bool
+    ensures { result ≡ list_all is_ascii_digit word.now }
+{
+    word.iter().all(|byte| byte.is_ascii_digit())
+}
+
+fn is_decimal(word: &[u8]) -> bool
+    ensures { result ≡ is_decimal word.now }
+{
+    if word.is_empty() {
+        return false;
+    }
+    if !is_digits(word) {
+        return false;
+    }
+    word.len() == 1 || word[0] != b'0'
+}
+
+// A number below 2^32.
+#[tactic(auto, using(crate::proofs::TapeWordLemmas::parsed, crate::proofs::TapeWordLemmas::decimal_utf8), unfolding(crate::specs::TapeLine::number_of))]
+pub(crate) fn number_of(word: &[u8]) -> Option<u32>
+    ensures { result ≡ number_of word.now }
+{
+    if !is_decimal(word) {
+        return None;
+    }
+    match str::from_utf8(word) {
+        Ok(text) => text.parse::<u32>().ok(),
+        Err(_) => None,
+    }
+}
+
+fn is_lower(word: &[u8]) -> bool
+    ensures { result ≡ list_all is_lower_digit word.now }
+{
+    word.iter()
+        .all(|byte| matches!(*byte, b'0'..=b'9' | b'a'..=b'f'))
+}
+
+// So many bytes.
+#[tactic(auto, unfolding(crate::specs::TapeLine::bytes_of))]
+pub(crate) fn bytes_of<const N: usize>(word: &[u8]) -> Option<[u8; N]>
+    ensures { result ≡ bytes_of N word.now }
+{
+    if !is_lower(word) {
+        return None;
+    }
+    let mut bytes = [0; N];
+    match hex::decode_to_slice(word, &mut bytes) {
+        Ok(()) => Some(bytes),
+        Err(_) => None,
+    }
+}
+
+// Any number of bytes, and `-` for none.
+#[tactic(auto, unfolding(crate::specs::TapeLine::message_of))]
+pub(crate) fn message_of(alloc: Global, word: &[u8]) -> Result<Option<Octets>, Memory>
+    ensures { IfOk result (λ bytes. bytes ≡ message_of word.now) }
+{
+    match word {
+        [] => Ok(None),
+        b"-" => Ok(Some(Octets::from_vec(Vec::new(alloc)))),
+        _ if !is_lower(word) => Ok(None),
+        _ => match hex::decode(alloc, word) {
+            Ok(bytes) => Ok(Some(Octets::from_vec(bytes))),
+            Err(FromHexError::OutOfMemory) => Err(Memory),
+            Err(_) => Ok(None),
+        },
+    }
+}

@@ -1,0 +1,19 @@
+// The types of the crate between threads.
+use crate::{Exchange, Recorder, ReplayDevice, ToyDevice};
+
+fn is_send<T: Send>() {}
+
+fn is_sync<T: Sync>() {}
+
+/// Holds no work: that it compiles shows that the devices, a recorder of such a device, and
+/// exchanges may move to another thread and be shared between threads.
+pub fn devices_cross_threads<D: Send + Sync>() {
+    is_send::<Exchange>();
+    is_sync::<Exchange>();
+    is_send::<Recorder<D>>();
+    is_sync::<Recorder<D>>();
+    is_send::<ReplayDevice>();
+    is_sync::<ReplayDevice>();
+    is_send::<ToyDevice>();
+    is_sync::<ToyDevice>();
+}
