@@ -1,6 +1,6 @@
 -- What stores that agree have in common.
-use Rattle.std.proofs.Common.{◌≡◌, ℕ, suc, ◌+◌, ◌<◌, Bool, true, false, not, ◌&&◌, ◌||◌, cond, List, [], ◌∷◌, length, map, Option, Some, None, refl, sym, ap, subst, ◌∙◌, arith}
-use Rattle.std.specs.Prelude.{nat_lt, is_some, option_map, unwrap_or, find, filter_map, position, slice_get}
+use Rattle.std.proofs.Common.{◌≡◌, ℕ, Bool, true, false, not, ◌&&◌, ◌||◌, cond, List, [], ◌∷◌, map, Option, Some, None, refl, sym, ap, ◌∙◌}
+use Rattle.std.specs.Prelude.{is_some, option_map, unwrap_or, find, filter_map, position, slice_get}
 use Rattle.std.specs.List.{list_any, position_or_len, cons_option}
 use Rattle.std.specs.Str.{bytes_eq}
 use Rattle.std.proofs.lemmas.List.{length-map}
@@ -8,8 +8,8 @@ use Rattle.std.proofs.lemmas.Option.{slice_get-map}
 use Rattle.mdoc_outside.specs.OptionSteps.{◌>>=◌}
 use Rattle.doc_store.specs.Item.{Item, item}
 use Rattle.doc_store.specs.Store.{Copy, Document, Store}
-use Rattle.doc_store.specs.Held.{is_named, is_item, held, document_place, chosen, Place, place_at, item_at, place_of}
-use Rattle.doc_store.specs.Agreement.{Named, named, names, CopyOutline, DocumentOutline, copy_outline, outline, Agree, SamePlaces, SamePresence}
+use Rattle.doc_store.specs.Held.{is_named, is_item, held, chosen, Place, place_at, item_at, place_of}
+use Rattle.doc_store.specs.Agreement.{Named, named, names, CopyOutline, DocumentOutline, copy_outline, outline, Agree}
 
 -- ---- a search through a map
 

@@ -1,5 +1,5 @@
 -- The items that a copy holds, a namespace at a time.
-use Rattle.std.proofs.Common.{◌≡◌, ℕ, Bool, true, false, ◌&&◌, cond, List, [], ◌∷◌, ◌++◌, length, map, Option, Some, None, refl, sym, ap, ◌∙◌}
+use Rattle.std.proofs.Common.{◌≡◌, ℕ, Bool, true, false, ◌&&◌, cond, List, [], ◌∷◌, length, map, Option, Some, None, refl, ap, ◌∙◌}
 use Rattle.std.specs.Prelude.{is_some, option_map, unwrap_or, find, nat_le}
 use Rattle.std.specs.List.{flat_map}
 use Rattle.std.specs.Option.{option_or}
@@ -11,9 +11,10 @@ use Rattle.mdoc_outside.specs.OptionSteps.{◌>>=◌, where_true, each}
 use Rattle.doc_store.specs.Fields.{are_distinct}
 use Rattle.doc_store.specs.Held.{is_named, is_item}
 use Rattle.doc_store.specs.HeldItem.{no_space, held_by, raws_in, is_raw}
+use Rattle.doc_store.specs.InHand.{beside}
 use Rattle.doc_store.specs.Item.{Item, item}
 use Rattle.doc_store.specs.Parts.{said_by}
-use Rattle.doc_store.specs.Store.{name_in, within, named_item, namespace, spread, items_of}
+use Rattle.doc_store.specs.Store.{within, named_item, namespace, spread, items_of}
 
 abbrev Named : Type 0
 Named = List ℕ × List ℕ
@@ -109,36 +110,63 @@ made test own items = where_true test (own, map (λ (named : Named). named.1) it
 abbrev space_of : Option (List ℕ) → Option (List Part) → Option Space
 space_of own parts = own >>= λ name. (parts >>= each named_item) >>= λ items. made (distinct items) name items
 
-abbrev found_in : List ℕ → List ℕ → Option Space → Option (List ℕ)
-found_in ns name o = held_by ns name (unwrap_or o no_space)
-
 abbrev raws_of : List Part → List (List ℕ)
 raws_of parts = map (λ (p : Part). p.bytes) parts
+
+-- a namespace that can be read: its name is the key's text, and its items are the parts of the array
+pub record SpaceParts (key value : Part) : Type 0 where
+  pub own : List ℕ
+  pub parts : List Part
+  pub text : text_in key ≡ Some own
+  pub array : items_in value ≡ Some parts
+  pub said : said_by no_space namespace (key, value) ≡ (own, raws_of parts)
+
+pub space_parts : (key value : Part) → is_some {T = Space} (namespace (key, value)) ≡ true → SpaceParts key value
+space_parts key value read = by_text (text_in key) (items_in value) refl refl read where
+  by_test : (own : List ℕ) (parts : List Part) (items : List Named) (d : Bool) → text_in key ≡ Some own → items_in value ≡ Some parts →
+      nat_le (length own) 128 ≡ true → each named_item parts ≡ Some items → distinct items ≡ d → is_some (made d own items) ≡ true → SpaceParts key value
+  by_test own parts items false text array small each_is test e = cc
+  by_test own parts items true text array small each_is test e = record {
+    own = own;
+    parts = parts;
+    text = text;
+    array = array;
+    said = rw (text, array, small, each_is, test, each-raw parts items each_is) refl;
+  }
+
+  by_items : (own : List ℕ) (parts : List Part) (o : Option (List Named)) → text_in key ≡ Some own → items_in value ≡ Some parts →
+      nat_le (length own) 128 ≡ true → each named_item parts ≡ o → is_some (o >>= λ items. made (distinct items) own items) ≡ true → SpaceParts key value
+  by_items own parts None text array small each_is e = cc
+  by_items own parts (Some items) text array small each_is e = by_test own parts items (distinct items) text array small each_is refl e
+
+  by_array : (own : List ℕ) (b : Bool) (o : Option (List Part)) → text_in key ≡ Some own → items_in value ≡ o →
+      nat_le (length own) 128 ≡ b → is_some (space_of (where_true b own) o) ≡ true → SpaceParts key value
+  by_array own false o text array small e = cc
+  by_array own true None text array small e = cc
+  by_array own true (Some parts) text array small e = by_items own parts (each named_item parts) text array small refl e
+
+  by_text : (t : Option (List ℕ)) (o : Option (List Part)) → text_in key ≡ t → items_in value ≡ o →
+      is_some (space_of (t >>= λ own. where_true (nat_le (length own) 128) own) o) ≡ true → SpaceParts key value
+  by_text None o text array e = cc
+  by_text (Some own) o text array e = by_array own (nat_le (length own) 128) o text array refl e
 
 -- a namespace holds the item where its name is the one, and its items are those of the array
 pub held_here : (ns name : List ℕ) (key value : Part) → is_some {T = Space} (namespace (key, value)) ≡ true →
     held_by ns name (said_by no_space namespace (key, value)) ≡ cond (is_words ns (text_in key)) (find (is_raw name) (raws_in value)) None
-held_here ns name key value read = by_text (text_in key) (items_in value) read where
-  by_last : (own : List ℕ) (parts : List Part) (items : List Named) (d : Bool) → each named_item parts ≡ Some items →
-      is_some (made d own items) ≡ true →
-      found_in ns name (made d own items) ≡ cond (bytes_eq own ns) (find (is_raw name) (raws_of parts)) None
-  by_last own parts items false each_is e = cc
-  by_last own parts items true each_is e = rw (each-raw parts items each_is) (find-spread ns name own (raws_of parts) (bytes_eq own ns) refl)
+held_here ns name key value read =
+    let space = space_parts key value read in
+    rw (space.said, space.text, space.array) (find-spread ns name space.own (raws_of space.parts) (bytes_eq space.own ns) refl)
 
-  by_items : (own : List ℕ) (parts : List Part) (o : Option (List Named)) → each named_item parts ≡ o →
-      is_some (o >>= λ items. made (distinct items) own items) ≡ true →
-      found_in ns name (o >>= λ items. made (distinct items) own items) ≡ cond (bytes_eq own ns) (find (is_raw name) (raws_of parts)) None
-  by_items own parts None each_is e = cc
-  by_items own parts (Some items) each_is e = by_last own parts items _ each_is e
+-- the parts of the array beside the name are the items of the namespace
+pub beside-said : (own : List ℕ) (parts : List Part) → beside own parts ≡ spread (own, raws_of parts)
+beside-said own [] = refl
+beside-said own (p ∷ parts) = ap (λ rest. (own, p.bytes) ∷ rest) (beside-said own parts)
 
-  by_array : (own : List ℕ) (b : Bool) (o : Option (List Part)) → is_some (space_of (where_true b own) o) ≡ true →
-      found_in ns name (space_of (where_true b own) o) ≡ cond (bytes_eq own ns) (find (is_raw name) (raws_of (unwrap_or o []))) None
-  by_array own false o e = cc
-  by_array own true None e = cc
-  by_array own true (Some parts) e = by_items own parts (each named_item parts) refl e
-
-  by_text : (t : Option (List ℕ)) (o : Option (List Part)) →
-      is_some (space_of (t >>= λ own. where_true (nat_le (length own) 128) own) o) ≡ true →
-      found_in ns name (space_of (t >>= λ own. where_true (nat_le (length own) 128) own) o) ≡ cond (is_words ns t) (find (is_raw name) (raws_of (unwrap_or o []))) None
-  by_text None o e = cc
-  by_text (Some own) o e = by_array own (nat_le (length own) 128) o e
+-- a namespace that can be read, by its name and its array
+pub opened : (key value : Part) (own : List ℕ) (parts : List Part) → text_in key ≡ Some own → items_in value ≡ Some parts →
+    is_some {T = Space} (namespace (key, value)) ≡ true → beside own parts ≡ spread (said_by no_space namespace (key, value))
+opened key value own parts text array read =
+    let space = space_parts key value read in
+    let own_same : own ≡ space.own = cc in
+    let parts_same : parts ≡ space.parts = cc in
+    rw (space.said, own_same, parts_same) (beside-said space.own space.parts)

@@ -1,5 +1,4 @@
 pub mod AgreeLemmas
-pub mod ByFields
 pub mod EachPart
 pub mod HeldItems
 pub mod Namespaces

@@ -1,6 +1,6 @@
 -- The items of a copy, gathered a namespace at a time.
-use Rattle.std.proofs.Common.{◌≡◌, ℕ, ◌+◌, ◌-◌, ◌<◌, ◌≤◌, Bool, true, false, ◌&&◌, List, [], ◌∷◌, ◌++◌, length, map, Option, Some, None, refl, sym, ap, ◌∙◌, append_assoc, arith}
-use Rattle.std.specs.Prelude.{nat_le, is_some, option_map}
+use Rattle.std.proofs.Common.{◌≡◌, ℕ, ◌+◌, ◌-◌, ◌≤◌, Bool, true, false, ◌&&◌, List, [], ◌∷◌, ◌++◌, length, map, Option, Some, None, refl, sym, ap, ◌∙◌, append_assoc, arith}
+use Rattle.std.specs.Prelude.{nat_le, is_some}
 use Rattle.std.specs.List.{flat_map}
 use Rattle.std.proofs.lemmas.List.{length-map, length-append, append-nil}
 use Rattle.std.proofs.lemmas.Bool.Decides.{nat_tests}
@@ -176,13 +176,6 @@ fits-all entries few = by_count (nat_le 0 (length entries) && nat_le (length ent
       ≡ fits [] 512 (each namespace entries)
   by_count true e = by_spaces (each namespace entries)
   by_count false e = cc
-
-pub fits-too-many : (entries : List (Part × Part)) → nat_le (length entries) 16 ≡ false → is_some (items_of entries) ≡ false
-fits-too-many entries many = rw many (by_count (nat_le 0 (length entries) && false) (and-false _)) where
-  by_count : (b : Bool) → b ≡ false →
-      is_some ((where_true b entries >>= each namespace) >>= λ spaces. where_true (are_distinct (map (λ (space : Space). space.0) spaces)) spaces >>= λ distinct. within 0 512 (flat_map spread distinct)) ≡ false
-  by_count true e = cc
-  by_count false e = refl
 
 -- no namespace is left
 pub fits-end : (names : List (List ℕ)) (room : ℕ) → fits names room (each namespace []) ≡ are_distinct names

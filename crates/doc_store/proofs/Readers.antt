@@ -1,9 +1,7 @@
 -- What the parts of a thing that was read say.
-use Rattle.std.proofs.Common.{◌≡◌, ℕ, zero, ◌+◌, ◌-◌, ◌<◌, ◌≤◌, suc, Bool, true, false, ◌&&◌, cond, List, [], ◌∷◌, ◌++◌, length, map, Option, Some, None, refl, sym, ap, ◌∙◌, arith}
-use Rattle.std.specs.Prelude.{is_some, option_map, unwrap_or, slice_get, nat_le, nat_lt, find, position}
-use Rattle.std.specs.List.{position_or_len}
-use Rattle.std.proofs.lemmas.Bool.Decides.{nat_tests}
-use Rattle.mdoc_outside.specs.OptionSteps.{◌>>=◌, where_true, each}
+use Rattle.std.proofs.Common.{◌≡◌, ℕ, zero, ◌<◌, suc, true, List, [], ◌∷◌, length, Option, Some, None, refl, sym, ap, ◌∙◌, arith}
+use Rattle.std.specs.Prelude.{is_some, option_map, unwrap_or, slice_get}
+use Rattle.mdoc_outside.specs.OptionSteps.{◌>>=◌, each}
 use Rattle.doc_store.specs.Parts.{said_by}
 
 -- ---- the parts of a list
@@ -76,16 +74,3 @@ none_at {A} {B} step (x ∷ xs) ys (suc n) said within at =
       go (Some z) (Some zs) known e =
           let same : ys ≡ z ∷ zs = cc in
           known zs refl (omega (arith, ap length same))
-
--- one place further
-pub slice_get_later : {A : Type 0} (x : A) (xs : List A) (n : ℕ) → 0 < n → slice_get (x ∷ xs) n ≡ slice_get xs (n - 1)
-slice_get_later x xs zero later = absurd (omega arith)
-slice_get_later x xs (suc n) later = let less : suc n - 1 ≡ n = omega arith in rw less refl
-
--- ---- the first that passes
-
--- a test of the first part and of those behind it
-pub position-step : {A : Type 0} (test : A → Bool) (x : A) (xs : List A) (passed : ℕ) (b : Bool) → test x ≡ b →
-    passed + position_or_len test (x ∷ xs) ≡ cond b passed (passed + 1 + position_or_len test xs)
-position-step test x xs passed true e = rw e (omega arith)
-position-step test x xs passed false e = rw e (omega arith)

@@ -1,5 +1,5 @@
 -- The fields of a document and of a file one by one.
-use Rattle.std.specs.Prelude.{ℕ, ◌==◌, List, Bool, Option, Some, codes}
+use Rattle.std.specs.Prelude.{ℕ, ◌==◌, List, Bool, Option, codes}
 use Rattle.cbor_view.specs.Parts.{Part, uint_in, items_in}
 use Rattle.mdoc_outside.specs.OptionSteps.{◌>>=◌, where_true}
 use Rattle.doc_store.specs.Fields.{field}

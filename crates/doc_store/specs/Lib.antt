@@ -1,10 +1,12 @@
 pub mod Agreement
 pub mod CopyForm
+pub mod CopyItems
 pub mod Document
 pub mod DocumentForm
 pub mod Fields
 pub mod Held
 pub mod HeldItem
+pub mod InHand
 pub mod Item
 pub mod ItemView
 pub mod Namespace

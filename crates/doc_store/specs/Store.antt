@@ -1,10 +1,10 @@
 -- The store file: the documents of a holder, each with the copies that an issuer made of it.
-use Rattle.std.specs.Prelude.{ℕ, ◌+◌, ◌==◌, ◌^◌, nat_le, nat_lt, List, [], ◌∷◌, ◌++◌, length, map, Bool, true, false, ◌&&◌, Option, Some, None, codes, if◌then◌else◌}
-use Rattle.std.specs.List.{concat, flat_map}
-use Rattle.cbor_view.specs.Parts.{Part, cbor, uint_in, bytes_in, text_in, boolean_in, items_in, pairs_in}
+use Rattle.std.specs.Prelude.{ℕ, ◌==◌, ◌^◌, nat_le, nat_lt, List, length, map, Bool, true, false, ◌&&◌, Option, Some, None, codes, if◌then◌else◌}
+use Rattle.std.specs.List.{flat_map}
+use Rattle.cbor_view.specs.Parts.{Part, cbor, uint_in, text_in, boolean_in, items_in, pairs_in}
 use Rattle.mdoc_outside.specs.OptionSteps.{◌>>=◌, where_true, each}
 use Rattle.doc_store.specs.Fields.{field, are_distinct}
-use Rattle.doc_store.specs.Item.{Item, item, spelled}
+use Rattle.doc_store.specs.Item.{item, spelled}
 
 -- A copy: the number of its device key, whether it was used, the issuer's signature as stored, and its items as stored, each with its namespace.
 pub record Copy : Type 0 where

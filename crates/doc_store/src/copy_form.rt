@@ -61,7 +61,6 @@ pub(crate) fn check_copies(alloc: Global, copies: Items<'_>) -> Result<(), Store
     Ok(())
 }
 
-#[tactic(auto, using(crate::proofs::ByFields::copy_known))]
 fn check_copy(alloc: Global, stored: &View<'_>) -> Result<(), StoreFault>
     ensures { Tells result (is_some (copy (part stored.now))) }
 {
@@ -75,7 +74,8 @@ fn check_copy(alloc: Global, stored: &View<'_>) -> Result<(), StoreFault>
 }
 
 fn has_signed_key(stored: &View<'_>) -> bool
-    ensures { result ≡ (is_some (key_in (part stored.now)) && (is_some (used_in (part stored.now)) && is_some (issuer_auth_in (part stored.now)))) }
+    ensures { result ≡ (is_some (key_in (part stored.now))
+        && (is_some (used_in (part stored.now)) && is_some (issuer_auth_in (part stored.now)))) }
 {
     read_key(stored).is_some() && read_used(stored).is_some() && read_issuer_auth(stored).is_some()
 }

@@ -67,7 +67,8 @@ pub(crate) fn read_doc_types<'a>(
     alloc: Global,
     documents: Items<'a>,
 ) -> Result<Vec<&'a str>, StoreFault>
-    ensures { Reads (λ v. map (λ t. t.now) v.items) result (option_map (map (λ d. d.doc_type)) (each document (left documents.entry))) }
+    ensures { Reads (λ v. map (λ t. t.now) v.items) result
+        (option_map (map (λ d. d.doc_type)) (each document (left documents.entry))) }
 {
     let mut types = Vec::new(alloc);
     for stored in documents {
@@ -82,7 +83,8 @@ pub(crate) fn read_doc_types<'a>(
 
 /// The type of a document that is in its form.
 fn check_document<'a>(alloc: Global, stored: &View<'a>) -> Result<&'a str, StoreFault>
-    ensures { Reads (λ t. t.now) result (option_map (λ d. d.doc_type) (document (part stored.now))) }
+    ensures { Reads (λ t. t.now) result
+        (option_map (λ d. d.doc_type) (document (part stored.now))) }
 {
     let Some(doc_type) = read_doc_type(stored) else {
         return Err(StoreFault::Unread);

@@ -20,7 +20,8 @@ pub(crate) fn find_in_space<'a>(
     name: &str,
 ) -> Option<&'a [u8]>
     requires { is_some (namespace (part space.now, part items.now)) ≡ true }
-    ensures { option_map (λ b. b.now) result ≡ held_by ns.now name.now (said_by no_space namespace (part space.now, part items.now)) }
+    ensures { option_map (λ b. b.now) result
+        ≡ held_by ns.now name.now (said_by no_space namespace (part space.now, part items.now)) }
 {
     if is_text(space, ns) {
         find_named(items, name)

@@ -19,7 +19,6 @@ pub(crate) fn count_of(items: Items<'_>) -> usize
 }
 
 /// The item at a place, if there is one.
-#[tactic(auto, using(crate::proofs::Readers::slice_get_later))]
 pub(crate) fn item_at<'a>(items: Items<'a>, place: usize) -> Option<View<'a>>
     ensures { option_map part result ≡ slice_get (left items.entry) place }
 {

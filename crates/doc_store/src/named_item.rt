@@ -15,7 +15,8 @@ use std::alloc::Global;
 
 /// The name of an item whose name and value are not too long.
 pub(crate) fn read_item_name<'a>(stored: &View<'a>) -> Option<&'a str>
-    ensures { option_map (λ t. t.now) result ≡ option_map (λ n. n.0) (named_item (part stored.now)) }
+    ensures { option_map (λ t. t.now) result
+        ≡ option_map (λ n. n.0) (named_item (part stored.now)) }
 {
     let item = Item::read(stored.raw())?;
     if item.name.len() > MOST_NAME_BYTES || item.value.raw().len() > MOST_VALUE_BYTES {
@@ -29,7 +30,8 @@ pub(crate) fn read_item_names<'a>(
     alloc: Global,
     items: Items<'a>,
 ) -> Result<Vec<&'a str>, StoreFault>
-    ensures { Reads (λ v. map (λ t. t.now) v.items) result (option_map (map (λ n. n.0)) (each named_item (left items.entry))) }
+    ensures { Reads (λ v. map (λ t. t.now) v.items) result
+        (option_map (map (λ n. n.0)) (each named_item (left items.entry))) }
 {
     let mut names = Vec::new(alloc);
     for item in items {

@@ -41,15 +41,16 @@ pub(crate) fn check_namespaces(alloc: Global, spaces: Pairs<'_>) -> Result<(), S
     }
 }
 
-#[tactic(auto, using(crate::proofs::Namespaces::counted_within))]
 /// The name of a namespace that has so many items at most, and how many these are.
+#[tactic(auto, using(crate::proofs::Namespaces::counted_within))]
 fn read_namespace<'a>(
     alloc: Global,
     name: &View<'a>,
     items: &View<'a>,
     most: usize,
 ) -> Result<(&'a str, usize), StoreFault>
-    ensures read { Reads (λ s. (s.0.now, s.1)) result (counted most (part name.now, part items.now)) }
+    ensures read { Reads (λ s. (s.0.now, s.1)) result
+        (counted most (part name.now, part items.now)) }
     ensures within { IfOk result (λ s. s.1 ≤ most) }
 {
     let Some(name) = read_name(name) else {

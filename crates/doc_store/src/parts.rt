@@ -34,7 +34,8 @@ pub(crate) fn items_within<'a>(list: &View<'a>, least: usize, most: usize) -> Op
 }
 
 fn is_count_within(items: Items<'_>, least: usize, most: usize) -> bool
-    ensures { result ≡ (nat_le least (length (left items.entry)) && nat_le (length (left items.entry)) most) }
+    ensures { result
+        ≡ (nat_le least (length (left items.entry)) && nat_le (length (left items.entry)) most) }
 {
     let mut count = 0;
     for _item in items {

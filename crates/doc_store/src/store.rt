@@ -16,8 +16,8 @@ use crate::listing::{count_of, item_at};
 use cbor_view::{Items, View};
 use std::alloc::Global;
 
-/// A store: the documents of a holder, as their bytes spell them. It keeps the bytes, and looks at them anew in each
-/// call.
+/// A store: the documents of a holder, as their bytes spell them. It keeps the bytes, and looks at
+/// them anew in each call.
 #[derive(Clone, Copy)]
 pub struct Store<'a> {
     bytes: &'a [u8],
@@ -47,6 +47,7 @@ impl<'a> Store<'a> {
             Err(StoreFault::Memory) => Err(StoreFault::Memory),
         }
     }
+
     /// How many documents there are, at most 16.
     pub fn documents(&self) -> usize
         ensures { result ≡ length (documents_in self.now) }
@@ -67,8 +68,11 @@ impl<'a> Store<'a> {
 
     /// The document of a type, if there is one.
     pub fn find(&self, doc_type: &str) -> Option<Document<'a>>
-        ensures found { option_map document_of result ≡ document_found (documents_in self.now) doc_type.now }
-        ensures placed { MatchOption result (document_place (documents_in self.now) doc_type.now ≡ None) (λ d. IsAt (documents_in self.now) doc_type.now (document_of d)) }
+        ensures found { option_map document_of result
+            ≡ document_found (documents_in self.now) doc_type.now }
+        ensures placed { MatchOption result
+            (document_place (documents_in self.now) doc_type.now ≡ None)
+            (λ d. IsAt (documents_in self.now) doc_type.now (document_of d)) }
     {
         for stored in self.stored_documents() {
             let document = Document { stored };

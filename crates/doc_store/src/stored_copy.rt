@@ -1,14 +1,16 @@
 //! A copy of a document.
 
-ghost use Rattle.std.specs.Prelude.{◌≡◌, true, [], is_some, option_map, unwrap_or};
+ghost use Rattle.std.specs.Prelude.{◌≡◌, true, [], Some, is_some, length, option_map, unwrap_or};
 ghost use Rattle.std.specs.List.{flat_map};
 ghost use Rattle.cbor_view.specs.Pairs.{pairs_left};
+ghost use Rattle.cbor_view.specs.Parts.{items_in};
 ghost use Rattle.cbor_view.specs.View.{part};
 ghost use Rattle.mdoc_outside.specs.OptionSteps.{each};
 ghost use Rattle.doc_store.specs.Held.{held};
 ghost use Rattle.doc_store.specs.Store.{copy, namespace, spread};
 
 use crate::copy_form::{read_issuer_auth, read_key, read_spaces, read_used};
+use crate::copy_items::CopyItems;
 use crate::held_item::find_in_space;
 use cbor_view::{Pairs, View};
 
@@ -20,6 +22,7 @@ pub struct StoredCopy<'a> {
 }
 
 impl<'a> StoredCopy<'a> {
+    ghost use Rattle.doc_store.specs.CopyItems.{copy_items_left};
     ghost use Rattle.doc_store.specs.StoredCopy.{copy_of};
 
     /// The number of its device key.
@@ -44,14 +47,17 @@ impl<'a> StoredCopy<'a> {
 
     /// The issuer's signature (ISO/IEC 18013-5, 9.1.2.4), an array of four as it is stored.
     pub fn issuer_auth(&self) -> View<'a>
-        ensures { (part result).bytes ≡ (copy_of self.now).issuer_auth }
+        ensures stored { (part result).bytes ≡ (copy_of self.now).issuer_auth }
+        ensures four { option_map length (items_in (part result)) ≡ Some 4 }
     {
         match read_issuer_auth(&self.stored) {
             Some(auth) => auth,
             None => unreachable!(),
         }
     }
-    /// The item of that namespace and name, as it is stored (IssuerSignedItemBytes; ISO/IEC 18013-5, 8.3.2.1.2.2).
+
+    /// The item of that namespace and name, as it is stored (IssuerSignedItemBytes;
+    /// ISO/IEC 18013-5, 8.3.2.1.2.2).
     #[tactic(auto, using(crate::proofs::HeldItems::held_all_step))]
     pub fn item(&self, ns: &str, name: &str) -> Option<&'a [u8]>
         ensures { option_map (λ b. b.now) result ≡ held (copy_of self.now) ns.now name.now }
@@ -65,10 +71,21 @@ impl<'a> StoredCopy<'a> {
         None
     }
 
+    /// All items, each with its namespace, in the order of the store.
+    pub fn items(&self) -> CopyItems<'a>
+        ensures { copy_items_left result ≡ (copy_of self.now).items }
+    {
+        let ns = "";
+        let items = None;
+        let spaces = self.spaces();
+        CopyItems { ns, items, spaces }
+    }
+
     #[tactic(auto, using(crate::proofs::HeldItems::items_spaces))]
     fn spaces(&self) -> Pairs<'a>
         ensures read { is_some (each namespace (pairs_left result)) ≡ true }
-        ensures all { (copy_of self.now).items ≡ flat_map spread (unwrap_or (each namespace (pairs_left result)) []) }
+        ensures all { (copy_of self.now).items
+            ≡ flat_map spread (unwrap_or (each namespace (pairs_left result)) []) }
     {
         match read_spaces(&self.stored) {
             Some(spaces) => spaces,

@@ -1,6 +1,6 @@
 //! Stores by their bytes.
 
-use crate::{EMPTY_STORE, Store, StoreFault};
+use crate::{EMPTY_STORE, Store, StoreFault, StoredCopy};
 use std::alloc::Global;
 use std::process::Abort;
 use std::test::Fail;
@@ -9,7 +9,8 @@ use std::test::Fail;
 const ONE_ITEM: &[u8] = b"\xa2\x67version\x01\x69documents\x81\
 \xa3\x67docType\x61d\x64auth\x00\x66copies\x81\
 \xa4\x63key\x00\x64used\xf4\x6aissuerAuth\x84\x40\xa0\xf6\x40\x6anameSpaces\xa1\x61n\x81\
-\xd8\x18\x58\x37\xa4\x68digestID\x00\x66random\x41\x01\x71elementIdentifier\x61a\x6celementValue\x61x";
+\xd8\x18\x58\x37\xa4\x68digestID\x00\x66random\x41\x01\
+\x71elementIdentifier\x61a\x6celementValue\x61x";
 
 /// Its item: number 0, salt 01, name `a`, value "x".
 const ITEM: &[u8] = b"\xd8\x18\x58\x37\xa4\x68digestID\x00\x66random\x41\x01\
@@ -128,37 +129,51 @@ fn chooses_the_first_unused_copy(rt: HostRuntime) -> Result<(), Fail> {
     Ok(())
 }
 
-/// Items of one name in two namespaces, and documents in their order.
+/// The items of a copy one behind the other, each behind its namespace and a colon.
+fn shown(alloc: Global, copy: StoredCopy<'_>) -> Result<Vec<u8>, Fail> {
+    let mut all = Vec::new(alloc);
+    for (ns, raw) in copy.items() {
+        all.extend_from_slice(ns.as_bytes())?;
+        all.push(b':')?;
+        all.extend_from_slice(raw)?;
+    }
+    Ok(all)
+}
+
+/// Items of one name in two namespaces.
 #[test]
-fn tells_parts_apart(rt: HostRuntime) -> Result<(), Fail> {
+fn tells_namespaces_apart(rt: HostRuntime) -> Result<(), Fail> {
     let alloc = rt.alloc();
-    let one = b"\xa1\x61n\x81".as_slice();
     let two = joined(alloc, &[b"\xa2\x61m\x82", OTHER_ITEM, ITEM, b"\x61n\x81"])?;
-    let bytes = replaced(alloc, ONE_ITEM, one, &two)?;
+    let bytes = replaced(alloc, ONE_ITEM, b"\xa1\x61n\x81", &two)?;
     let bytes = replaced(alloc, &bytes, b"\x41\x01", b"\x41\x05")?;
+    let first = replaced(alloc, ITEM, b"\x41\x01", b"\x41\x05")?;
     let store = Store::read(alloc, &bytes).expect(&rt, "a store");
     let document = store.find("d").expect(&rt, "a document");
     let copy = document.copy(document.chosen());
     assert_eq!(rt; copy.item("n", "a"), Some(ITEM));
     assert_eq!(rt; copy.item("m", "b"), Some(OTHER_ITEM));
+    assert_eq!(rt; copy.item("m", "a"), Some(first.as_slice()));
     assert_eq!(rt; copy.item("n", "b"), None);
-    let found = copy.item("m", "a").expect(&rt, "an item");
-    assert!(rt; found != ITEM);
+    let wanted = joined(alloc, &[b"m:", OTHER_ITEM, b"m:", &first, b"n:", ITEM])?;
+    assert_eq!(rt; shown(alloc, copy)?, wanted);
+    Ok(())
+}
 
-    let bytes = numbered(
-        alloc,
-        b"\xa2\x67version\x01\x69documents\x83",
-        DOCUMENT_HEAD,
-        DOCUMENT_END,
-        3,
-    )?;
+/// Documents in the order of the file.
+#[test]
+fn keeps_the_order_of_documents(rt: HostRuntime) -> Result<(), Fail> {
+    let alloc = rt.alloc();
+    let front = b"\xa2\x67version\x01\x69documents\x83";
+    let bytes = numbered(alloc, front, DOCUMENT_HEAD, DOCUMENT_END, 3)?;
     let store = Store::read(alloc, &bytes).expect(&rt, "a store");
+    assert_eq!(rt; store.documents(), 3);
     for (place, wanted) in [(0, "000"), (1, "001"), (2, "002")] {
         if place < store.documents() {
             assert_eq!(rt; store.document(place).doc_type(), wanted);
+            assert!(rt; store.document(place).uses_mac());
         }
     }
-    assert_eq!(rt; store.documents(), 3);
     let store = Store::read(alloc, &EMPTY_STORE).expect(&rt, "a store");
     assert_eq!(rt; store.documents(), 0);
     Ok(())

@@ -1,4 +1,4 @@
-use Rattle.std.proofs.Common.{◌≡◌, ℕ, List, map}
+use Rattle.std.proofs.Common.{◌≡◌, map}
 use Rattle.cbor_view.specs.Items.{left}
 use Rattle.doc_store.specs.Store.{named_item}
 use Rattle.doc_store.proofs.EachPart.{all_of, with_front}

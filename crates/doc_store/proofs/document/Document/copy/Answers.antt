@@ -1,4 +1,4 @@
-use Rattle.std.proofs.Common.{sym, ◌∙◌}
+use Rattle.std.proofs.Common.{sym}
 use Rattle.cbor_view.specs.Items.{left}
 use Rattle.cbor_view.specs.View.{part}
 use Rattle.doc_store.specs.Store.{copy}
