@@ -1,6 +1,6 @@
 // Bytes of CBOR that are being written.
 ghost use Rattle.std.specs.Prelude.{◌≡◌, ◌^◌, ◌<◌, ◌≤◌, ℕ, List, [], ◌++◌, length, OnOk, OnErr};
-ghost use Rattle.cbor_view.specs.Shortest.{shortest_head, uint_bytes, text_bytes};
+ghost use Rattle.cbor_view.specs.Shortest.{boolean_bytes, bytes_bytes, int_bytes, null_bytes, shortest_head, text_bytes, uint_bytes};
 ghost use Rattle.cbor_view.specs.View.{part};
 
 use cbor_view::View;
@@ -11,11 +11,26 @@ use std::marker::Model;
 // The major types of RFC 8949, section 3.1.
 const UNSIGNED: u8 = 0;
 
+const NEGATIVE: u8 = 1;
+
+const BYTES: u8 = 2;
+
 const TEXT: u8 = 3;
 
 const ARRAY: u8 = 4;
 
 const MAP: u8 = 5;
+
+const TAG: u8 = 6;
+
+const SIMPLE: u8 = 7;
+
+// The simple values of section 3.3.
+const FALSE: u64 = 20;
+
+const TRUE: u64 = 21;
+
+const NULL: u64 = 22;
 
 /// Bytes of CBOR that are being written, which a contract sees as the list of them. The caller sees to it
 /// that a count is followed by so many items.
@@ -48,6 +63,28 @@ impl Build {
         self.head(UNSIGNED, n)
     }
 
+    /// Appends an integer of either sign (major types 0 and 1).
+    pub fn int(&mut self, n: i64) -> Result<(), Memory>
+        ensures ok { OnOk result (self.new ≡ self.old ++ int_bytes n) }
+        ensures err { OnErr result (self.new ≡ self.old) }
+    {
+        if n < 0 {
+            self.head(NEGATIVE, (-1 - n) as u64)
+        } else {
+            self.head(UNSIGNED, n as u64)
+        }
+    }
+
+    /// Appends a string of bytes (major type 2). One of 2^32 bytes or more has no spelling here, and is answered
+    /// by want of memory.
+    pub fn bytes(&mut self, bytes: &[u8]) -> Result<(), Memory>
+        ensures ok { OnOk result (self.new ≡ self.old ++ bytes_bytes bytes.now) }
+        ensures short { OnOk result (length bytes.now < 2 ^ 32) }
+        ensures err { OnErr result (self.new ≡ self.old) }
+    {
+        self.string(BYTES, bytes)
+    }
+
     /// Appends a text (major type 3). One of 2^32 bytes or more has no spelling here, and is answered by
     /// want of memory.
     pub fn text(&mut self, text: &str) -> Result<(), Memory>
@@ -74,6 +111,30 @@ impl Build {
         self.head(MAP, u64::from(count))
     }
 
+    /// Appends the head of a tag, on the item that comes next (major type 6).
+    pub fn tag(&mut self, tag: u64) -> Result<(), Memory>
+        ensures ok { OnOk result (self.new ≡ self.old ++ shortest_head 6 tag) }
+        ensures err { OnErr result (self.new ≡ self.old) }
+    {
+        self.head(TAG, tag)
+    }
+
+    /// Appends a truth value (section 3.3).
+    pub fn boolean(&mut self, value: bool) -> Result<(), Memory>
+        ensures ok { OnOk result (self.new ≡ self.old ++ boolean_bytes value) }
+        ensures err { OnErr result (self.new ≡ self.old) }
+    {
+        self.head(SIMPLE, if value { TRUE } else { FALSE })
+    }
+
+    /// Appends null (section 3.3).
+    pub fn null(&mut self) -> Result<(), Memory>
+        ensures ok { OnOk result (self.new ≡ self.old ++ null_bytes) }
+        ensures err { OnErr result (self.new ≡ self.old) }
+    {
+        self.head(SIMPLE, NULL)
+    }
+
     /// Appends a view's item as the very bytes that spell it.
     pub fn raw(&mut self, view: &View<'_>) -> Result<(), Memory>
         ensures ok { OnOk result (self.new ≡ self.old ++ (part view.now).bytes) }
@@ -90,8 +151,8 @@ impl Build {
         Octets::from_vec(bytes)
     }
 
-    // Appends bytes as they are.
-    fn append(&mut self, bytes: &[u8]) -> Result<(), Memory>
+    /// Appends bytes as they are: the caller sees to it that they spell what is to stand there.
+    pub fn append(&mut self, bytes: &[u8]) -> Result<(), Memory>
         ensures ok { OnOk result (self.new ≡ self.old ++ bytes.now) }
         ensures err { OnErr result (self.new ≡ self.old) }
     {

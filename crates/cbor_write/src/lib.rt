@@ -5,5 +5,7 @@
 #![tactic(auto)]
 
 mod build;
+mod laws;
 
 pub use build::Build;
+pub use laws::written_is_read;
