@@ -4,7 +4,7 @@ use Rattle.mdoc_outside.specs.Files.{Files}
 use Rattle.mdoc_outside.specs.ResultSteps.{◌>>=◌}
 use Rattle.mdoc_program.specs.FileSteps.{Tells, Steps}
 use Rattle.mdoc_program.specs.declared.status.Status.{Status}
-use Rattle.mdoc_program.specs.declared.status.Status.TheVariants.{Done, Usage, Missing, Cabinet, Form, Sink, Memory}
+use Rattle.mdoc_program.specs.declared.status.Status.TheVariants.{Done, Usage, Missing, Cabinet, Form, Sink, Limit, Memory}
 
 -- what a definition gives, where it fails, is what it gives with a step behind it
 told_on : {B D : Type 0} (definition : Files → Result B Status) (next : B → Files → Result D Status) (told : Option Files) (before now : ℕ) (status : Status) →
@@ -22,4 +22,5 @@ steps-fail view other definition next told before now (Missing role) s = told_on
 steps-fail view other definition next told before now Cabinet s = s
 steps-fail view other definition next told before now (Form role check at) s = told_on definition next told before now (Form role check at) s
 steps-fail view other definition next told before now Sink s = s
+steps-fail view other definition next told before now (Limit limit number) s = told_on definition next told before now (Limit limit number) s
 steps-fail view other definition next told before now Memory s = s

@@ -1,9 +1,12 @@
 pub mod AgreeLemmas
+pub mod AnsweringLemmas
+pub mod CoreWritten
 pub mod EachLine
+pub mod ExactLemmas
 pub mod FileFaults
 pub mod FileStepLemmas
-pub mod NothingReleased
+pub mod FirstsLemmas
 pub mod RequestLemmas
 pub mod RunLemmas
-pub mod StoreFileLemmas
 pub mod WishNames
+pub mod WriterLemmas

@@ -1,6 +1,6 @@
 -- From what the steps of a run give to the clauses of the run.
 use Rattle.std.proofs.Common.{◌≡◌, ℕ, List, [], Option, Some, None, Result, Ok, Err, refl, sym, ap, subst, ◌∙◌}
-use Rattle.std.specs.Prelude.{IfSome}
+use Rattle.std.specs.Prelude.{IfSome, true, is_some, unwrap_or}
 use Rattle.std.proofs.lemmas.List.{append-nil}
 use Rattle.mdoc_outside.specs.Files.{Files}
 use Rattle.doc_store.specs.Agreement.{Agree, FilesAgree}
@@ -11,7 +11,7 @@ use Rattle.mdoc_program.specs.Order.{DraftNames, draft_order}
 use Rattle.mdoc_program.specs.Printed.{core_line}
 use Rattle.mdoc_program.specs.Run.{Adds, Prints, Gained, PrintsLine, PrintsForAgreeing}
 use Rattle.mdoc_program.specs.declared.status.Status.{Status}
-use Rattle.mdoc_program.specs.declared.status.Status.TheVariants.{Done, Usage, Missing, Cabinet, Form, Sink, Memory}
+use Rattle.mdoc_program.specs.declared.status.Status.TheVariants.{Done, Usage, Missing, Cabinet, Form, Sink, Limit, Memory}
 use Rattle.mdoc_program.proofs.AgreeLemmas.{core_same}
 
 -- ---- a run that ended before it printed
@@ -37,9 +37,15 @@ prints-nothing view definition told before now (Missing role) put run steps = if
 prints-nothing view definition told before now Cabinet put run steps = if-some told _ (λ files. adds-nothing put _ refl)
 prints-nothing view definition told before now (Form role check at) put run steps = if-some told _ (λ files. adds-nothing put _ refl)
 prints-nothing view definition told before now Sink put run steps = absurd steps
+prints-nothing view definition told before now (Limit limit number) put run steps = if-some told _ (λ files. adds-nothing put _ refl)
 prints-nothing view definition told before now Memory put run steps = if-some told _ (λ files. adds-nothing put _ (memory-adds (run files)))
 
 -- ---- a run that printed
+
+-- what is some is some of its value
+pub some_value : {A : Type 0} (o : Option A) (d : A) → is_some o ≡ true → o ≡ Some (unwrap_or o d)
+some_value None d there = absurd cc
+some_value (Some x) d there = refl
 
 abbrev present : {A : Type 0} → A → Option A
 present x = Some x
@@ -64,6 +70,7 @@ all-printed text old now before after (Missing role) e prints = absurd cc
 all-printed text old now before after Cabinet e prints = absurd cc
 all-printed text old now before after (Form role check at) e prints = absurd cc
 all-printed text old now before after Sink e prints = absurd cc
+all-printed text old now before after (Limit limit number) e prints = absurd cc
 all-printed text old now before after Memory e prints = absurd cc
 
 printed-agreeing : (drafted : Draft) (run : Result Draft Status) → run ≡ Ok drafted → store drafted.file.bytes ≡ Some drafted.file.documents →

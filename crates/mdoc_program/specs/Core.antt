@@ -1,5 +1,6 @@
 -- The core of a response (ISO/IEC 18013-5, 8.3.2.1.2.2): what a DeviceResponse says of the elements asked for, without signatures.
 use Rattle.std.specs.Prelude.{ℕ, ◌==◌, List, [], ◌∷◌, ◌++◌, length, map, filter, filter_map, Bool, not, Option, is_none, option_map, codes}
+use Rattle.std.specs.List.{list_any}
 use Rattle.std.specs.Str.{bytes_eq}
 use Rattle.cbor_view.specs.Shortest.{uint_bytes, text_bytes, array_bytes, map_bytes}
 use Rattle.doc_store.specs.Store.{Copy, Store}
@@ -37,6 +38,10 @@ answered_with rules reader copy asked = record {
 abbrev pub answered : List Rule → Option (List ℕ) → Store → DocDraft → Answered
 answered rules reader documents asked = answered_with rules reader (shown_copy documents asked.doc_type) asked
 
+-- whether a text is one of a list
+abbrev pub has_text : List ℕ → List (List ℕ) → Bool
+has_text text texts = list_any (λ (other : List ℕ). bytes_eq other text) texts
+
 -- each text at its first place
 abbrev pub firsts : List (List ℕ) → List (List ℕ)
 firsts [] = []
@@ -69,7 +74,7 @@ abbrev pub errors_entry : List ℕ × List (List ℕ) → List ℕ × List ℕ
 errors_entry group = (text_bytes group.0, map_bytes (map error_entry group.1))
 
 -- a document of which something is released
-abbrev pub document_bytes : Answered → List ℕ
+unfoldable pub document_bytes : Answered → List ℕ
 document_bytes document = map_bytes (
     (text_bytes (codes "docType"), text_bytes document.doc_type)
     ∷ ((text_bytes (codes "nameSpaces"), map_bytes (map namespace_entry (grouped document.items)))

@@ -1,11 +1,10 @@
 -- The command `draft`: what its three files give, file by file, and the line that it prints of them.
 use Rattle.std.specs.Prelude.{ℕ, nat_le, List, length, Option, Some, None, Result, Ok, Err, option_map, if◌then◌else◌}
-use Rattle.std.specs.Str.{bytes_eq}
 use Rattle.mdoc_outside.specs.Files.{Files, file_in}
 use Rattle.mdoc_outside.specs.ResultSteps.{◌>>=◌, or_fault}
 use Rattle.doc_store.specs.Held.{Place}
 use Rattle.doc_store.specs.Store.{Store, store}
-use Rattle.doc_store.specs.declared.laws.TheConstants.{EMPTY_STORE}
+use Rattle.mdoc_outside.specs.declared.limit_name.LimitName.TheVariants.{FileBytes}
 use Rattle.mdoc_program.specs.Core.{core}
 use Rattle.mdoc_program.specs.Order.{DraftNames, draft_order}
 use Rattle.mdoc_program.specs.Printed.{core_line}
@@ -13,34 +12,48 @@ use Rattle.mdoc_program.specs.Released.{released_places}
 use Rattle.mdoc_program.specs.Rules.{rules_of}
 use Rattle.mdoc_program.specs.Wishes.{wishes_of}
 use Rattle.mdoc_program.specs.declared.doc_draft.DocDraft.{DocDraft}
-use Rattle.mdoc_program.specs.declared.form_check.FormCheck.TheVariants.{Unread}
+use Rattle.mdoc_program.specs.declared.file_fault.FileFault.{FileFault}
+use Rattle.mdoc_program.specs.declared.file_fault.FileFault.TheVariants as faults
+use Rattle.mdoc_program.specs.declared.form_check.FormCheck.TheVariants as checks
 use Rattle.mdoc_program.specs.declared.role.Role.{Role}
 use Rattle.mdoc_program.specs.declared.role.Role.TheVariants as roles
 use Rattle.mdoc_program.specs.declared.rule.Rule.{Rule}
 use Rattle.mdoc_program.specs.declared.status.Status.{Status}
-use Rattle.mdoc_program.specs.declared.status.Status.TheVariants.{Missing, Form, Usage}
+use Rattle.mdoc_program.specs.declared.status.Status.TheVariants.{Missing, Form, Limit, Memory, Usage}
 
 -- The bytes of a file: it is there, and has at most 16,777,216 bytes.
 abbrev pub bytes_of : Role → Option (List ℕ) → Result (List ℕ) Status
 bytes_of role None = Err (Missing role)
-bytes_of role (Some bytes) = if nat_le (length bytes) 16777216 then Ok bytes else Err (Form role Unread 0)
+bytes_of role (Some bytes) = if nat_le (length bytes) 16777216 then Ok bytes else Err (Limit FileBytes (length bytes))
 
 -- What a file gives: its reading, its length, its form.
-abbrev pub judged : {A : Type 0} → Role → (List ℕ → Option A) → Option (List ℕ) → Result A Status
-judged role form found = bytes_of role found >>= λ bytes. or_fault (Form role Unread 0) (form bytes)
+abbrev pub judged : {A : Type 0} → Role → (List ℕ → Result A Status) → Option (List ℕ) → Result A Status
+judged role form found = bytes_of role found >>= form
 
-abbrev pub value_or_none : {A E : Type 0} → Result A E → Option A
-value_or_none (Ok value) = Some value
-value_or_none (Err fault) = None
+-- the status of a line file with this fault
+abbrev pub status_of : Role → FileFault → Status
+status_of role (faults.Line number) = Form role checks.Line number
+status_of role (faults.Limit limit number) = Limit limit number
+status_of role faults.Memory = Memory
+
+-- what a line file says, or the status of its first fault
+abbrev pub or_status : {A : Type 0} → Role → Result A FileFault → Result A Status
+or_status role (Ok value) = Ok value
+or_status role (Err fault) = Err (status_of role fault)
+
+-- what the lines of a file say, or the status of the first one outside the grammar
+abbrev pub or_bad_line : {A : Type 0} → Role → Result A ℕ → Result A Status
+or_bad_line role (Ok value) = Ok value
+or_bad_line role (Err number) = Err (Form role checks.Line number)
 
 -- a store file beside the store that it spells
 pub record StoreFile : Type 0 where
   pub bytes : List ℕ
   pub documents : Store
 
--- The store of a file; the one that is read so far is the empty one, in its shortest spelling.
+-- The store of a file.
 abbrev pub store_file : List ℕ → Option StoreFile
-store_file bytes = if bytes_eq bytes EMPTY_STORE then option_map (λ documents. record { bytes = bytes; documents = documents }) (store bytes) else None
+store_file bytes = option_map (λ documents. record { bytes = bytes; documents = documents }) (store bytes)
 
 -- What the three files give: the store, the documents that are asked for, and the holder's rules.
 pub record Draft : Type 0 where
@@ -49,13 +62,13 @@ pub record Draft : Type 0 where
   pub rules : List Rule
 
 abbrev pub store_in : Files → List ℕ → Result StoreFile Status
-store_in files name = judged roles.Store store_file (file_in files name)
+store_in files name = judged roles.Store (λ bytes. or_fault (Form roles.Store checks.Unread 0) (store_file bytes)) (file_in files name)
 
 abbrev pub asked_in : Files → List ℕ → Result (List DocDraft) Status
-asked_in files name = judged roles.Wishes (λ text. value_or_none (wishes_of text)) (file_in files name)
+asked_in files name = judged roles.Wishes (λ text. or_status roles.Wishes (wishes_of text)) (file_in files name)
 
 abbrev pub rules_in : Files → List ℕ → Result (List Rule) Status
-rules_in files name = judged roles.Rules (λ text. value_or_none (rules_of text)) (file_in files name)
+rules_in files name = judged roles.Rules (λ text. or_bad_line roles.Rules (rules_of text)) (file_in files name)
 
 -- the files in their order: store, wishes, rules
 abbrev pub draft_of : Files → DraftNames → Result Draft Status

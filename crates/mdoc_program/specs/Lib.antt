@@ -1,8 +1,11 @@
+pub mod AnsweredDocument
 pub mod Cases
 pub mod Core
 pub mod Draft
 pub mod DraftOrder
 pub mod Drafted
+pub mod Entry
+pub mod Exact
 pub mod FileFault
 pub mod FileSteps
 pub mod Grammar
@@ -16,6 +19,7 @@ pub mod Rule
 pub mod Rules
 pub mod Run
 pub mod Status
+pub mod Texts
 pub mod Wish
 pub mod WishLine
 pub mod Wishes

@@ -34,6 +34,18 @@ abbrev pub SinkFailed : Status → ℕ → ℕ → Type 0
 SinkFailed Sink before now = Rose before now
 SinkFailed answer before now = now ≡ before
 
+-- all is done, or memory was wanting
+abbrev pub DoneOrMemory : Status → Type 0
+DoneOrMemory Done = Unit {0}
+DoneOrMemory Memory = Unit {0}
+DoneOrMemory answer = ⊥
+
+-- Where the words are in form, and the files are there, in their grammars and within the limits, the run does its
+-- work, unless a count of faults rose or memory was wanting.
+abbrev pub Complete : Result Draft Status → ℕ → ℕ → ℕ → ℕ → Status → Type 0
+Complete (Err status) before now put_before put_now answer = Unit {0}
+Complete (Ok drafted) before now put_before put_now answer = (Rose before now → ⊥) → (Rose put_before put_now → ⊥) → DoneOrMemory answer
+
 -- some bytes from the front
 pub record IsFront (front whole : List ℕ) : Type 0 where
   pub rest : List ℕ

@@ -1,10 +1,11 @@
 -- The statuses of the program: their codes, and the line that tells one on standard error.
 use Rattle.std.specs.Prelude.{ℕ, List, ◌++◌, codes}
 use Rattle.std.specs.Fmt.{decimal}
+use Rattle.mdoc_outside.specs.LimitName.{limit_text}
 use Rattle.mdoc_program.specs.declared.role.Role.{Role}
 use Rattle.mdoc_program.specs.declared.role.Role.TheVariants as roles
 use Rattle.mdoc_program.specs.declared.form_check.FormCheck.{FormCheck}
-use Rattle.mdoc_program.specs.declared.form_check.FormCheck.TheVariants.{Unread}
+use Rattle.mdoc_program.specs.declared.form_check.FormCheck.TheVariants.{Line, Unread}
 use Rattle.mdoc_program.specs.declared.status.Status.{Status}
 use Rattle.mdoc_program.specs.declared.status.Status.TheVariants as statuses
 
@@ -15,6 +16,7 @@ status_code (statuses.Missing role) = 3
 status_code statuses.Cabinet = 4
 status_code (statuses.Form role check at) = 5
 status_code statuses.Sink = 6
+status_code (statuses.Limit limit number) = 12
 status_code statuses.Memory = 13
 
 abbrev pub role_text : Role → List ℕ
@@ -34,6 +36,7 @@ role_text roles.Dice = codes "Dice"
 role_text roles.Schedule = codes "Schedule"
 
 abbrev pub check_text : FormCheck → List ℕ
+check_text Line = codes "Line"
 check_text Unread = codes "Unread"
 
 -- the variant's name and its values, each after one space
@@ -44,4 +47,5 @@ status_text (statuses.Missing role) = codes "Missing " ++ role_text role
 status_text statuses.Cabinet = codes "Cabinet"
 status_text (statuses.Form role check at) = codes "Form " ++ role_text role ++ codes " " ++ check_text check ++ codes " " ++ decimal at
 status_text statuses.Sink = codes "Sink"
+status_text (statuses.Limit limit number) = codes "Limit " ++ limit_text limit ++ codes " " ++ decimal number
 status_text statuses.Memory = codes "Memory"

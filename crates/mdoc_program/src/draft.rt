@@ -1,30 +1,25 @@
 // The command `draft`: its files, read and judged one by one, and the line that it prints.
-ghost use Rattle.std.specs.Prelude.{◌≡◌, [], IfOk, option_map};
+ghost use Rattle.std.specs.Prelude.{◌≡◌, IfOk, is_some};
 ghost use Rattle.mdoc_outside.specs.Files.{file_in};
-ghost use Rattle.doc_store.specs.declared.laws.TheConstants.{EMPTY_STORE};
-ghost use Rattle.mdoc_program.specs.Draft.{bytes_of, store_file, store_in, asked_in, rules_in, draft_of, printed};
+ghost use Rattle.doc_store.specs.Store.{store};
+ghost use Rattle.doc_store.specs.StoreFault.{Tells};
+ghost use Rattle.mdoc_program.specs.Draft.{bytes_of, store_in, asked_in, rules_in, draft_of, core_of, printed};
 ghost use Rattle.mdoc_program.specs.DraftOrder.{names};
-ghost use Rattle.mdoc_program.specs.Drafted.{draft_seen};
+ghost use Rattle.mdoc_program.specs.Drafted.{draft_seen, file_seen, IsStore};
 ghost use Rattle.mdoc_program.specs.FileSteps.{Steps};
 ghost use Rattle.mdoc_program.specs.Request.{IsRequest};
 
+use crate::answering::answer_all;
 use crate::draft_order::DraftOrder;
 use crate::drafted::Drafted;
-use crate::response_core::core_of_nothing;
+use crate::response_writer::write_core;
 use crate::{FileFault, FormCheck, RequestDraft, Role, RuleFault, Rules, Status, read_wishes};
-use doc_store::EMPTY_STORE;
-use mdoc_outside::{Cabinet, CabinetFault, Memory, Octets};
+use doc_store::{Store, StoreFault};
+use mdoc_outside::{Cabinet, CabinetFault, LimitName, Memory, Octets};
 use std::alloc::Global;
 
 // The most bytes of a file.
 const MOST_BYTES: usize = 16_777_216;
-
-// A file that is outside its form or past a limit.
-fn unread(role: Role) -> Status
-    ensures { result ≡ Status.Form role FormCheck.Unread 0 }
-{
-    Status::Form(role, FormCheck::Unread, 0)
-}
 
 // The bytes of a file that is there and isn't too long.
 fn bytes_of<C: Cabinet>(cabinet: &mut C, name: &str, role: Role) -> Result<Octets, Status>
@@ -34,10 +29,11 @@ fn bytes_of<C: Cabinet>(cabinet: &mut C, name: &str, role: Role) -> Result<Octet
 {
     match cabinet.read(name) {
         Ok(Some(bytes)) => {
-            if bytes.as_slice().len() <= MOST_BYTES {
+            let length = bytes.as_slice().len();
+            if length <= MOST_BYTES {
                 Ok(bytes)
             } else {
-                Err(unread(role))
+                Err(Status::Limit(LimitName::FileBytes, length as u64))
             }
         }
         Ok(None) => Err(Status::Missing(role)),
@@ -46,28 +42,29 @@ fn bytes_of<C: Cabinet>(cabinet: &mut C, name: &str, role: Role) -> Result<Octet
     }
 }
 
-// The store of a file, which is the empty one.
-#[tactic(auto, using(crate::proofs::StoreFileLemmas::store_file_empty))]
-fn store_of(bytes: &[u8]) -> Option<()>
-    ensures { option_map (λ _. record { bytes = EMPTY_STORE; documents = [] }) result ≡ store_file bytes.now }
+// Whether bytes spell a store.
+fn check_store(alloc: Global, bytes: &[u8]) -> Result<(), StoreFault>
+    ensures { Tells result (is_some (store bytes.now)) }
 {
-    if bytes == EMPTY_STORE.as_slice() {
-        Some(())
-    } else {
-        None
+    match Store::read(alloc, bytes) {
+        Ok(_) => Ok(()),
+        Err(StoreFault::Unread) => Err(StoreFault::Unread),
+        Err(StoreFault::Memory) => Err(StoreFault::Memory),
     }
 }
 
-// The store.
-fn read_store<C: Cabinet>(cabinet: &mut C, name: &str) -> Result<(), Status>
-    ensures read { Steps (λ _. record { bytes = EMPTY_STORE; documents = [] }) (λ files. store_in files name.now)
-        (C.files cabinet.old) (C.faults cabinet.old) (C.faults cabinet.new) result }
+// The bytes of the store.
+fn read_store<C: Cabinet>(alloc: Global, cabinet: &mut C, name: &str) -> Result<Octets, Status>
+    ensures read { Steps file_seen (λ files. store_in files name.now) (C.files cabinet.old)
+        (C.faults cabinet.old) (C.faults cabinet.new) result }
+    ensures store { IfOk result (λ bytes. IsStore bytes) }
     ensures same { C.files cabinet.new ≡ C.files cabinet.old }
 {
     let bytes = bytes_of(cabinet, name, Role::Store)?;
-    match store_of(bytes.as_slice()) {
-        Some(()) => Ok(()),
-        None => Err(unread(Role::Store)),
+    match check_store(alloc, bytes.as_slice()) {
+        Ok(()) => Ok(bytes),
+        Err(StoreFault::Unread) => Err(Status::Form(Role::Store, FormCheck::Unread, 0)),
+        Err(StoreFault::Memory) => Err(Status::Memory),
     }
 }
 
@@ -85,8 +82,8 @@ fn read_asked<C: Cabinet>(
     let text = bytes_of(cabinet, name, Role::Wishes)?;
     match read_wishes(alloc, text.as_slice()) {
         Ok(request) => Ok(request),
-        Err(FileFault::Line(_)) => Err(unread(Role::Wishes)),
-        Err(FileFault::Limit(_, _)) => Err(unread(Role::Wishes)),
+        Err(FileFault::Line(number)) => { Err(Status::Form(Role::Wishes, FormCheck::Line, number)) }
+        Err(FileFault::Limit(name, number)) => Err(Status::Limit(name, number)),
         Err(FileFault::Memory) => Err(Status::Memory),
     }
 }
@@ -100,7 +97,7 @@ fn read_rules<C: Cabinet>(alloc: Global, cabinet: &mut C, name: &str) -> Result<
     let text = bytes_of(cabinet, name, Role::Rules)?;
     match Rules::read(alloc, text.as_slice()) {
         Ok(rules) => Ok(rules),
-        Err(RuleFault::Line(_)) => Err(unread(Role::Rules)),
+        Err(RuleFault::Line(number)) => Err(Status::Form(Role::Rules, FormCheck::Line, number)),
         Err(RuleFault::Memory) => Err(Status::Memory),
     }
 }
@@ -113,21 +110,43 @@ pub(crate) fn read_files<C: Cabinet>(
 ) -> Result<Drafted, Status>
     ensures read { Steps draft_seen (λ files. draft_of files (names order.now)) (C.files cabinet.old)
         (C.faults cabinet.old) (C.faults cabinet.new) result }
+    ensures store { IfOk result (λ drafted. IsStore drafted.store) }
     ensures request { IfOk result (λ drafted. IsRequest drafted.asked.documents) }
     ensures same { C.files cabinet.new ≡ C.files cabinet.old }
 {
-    read_store(cabinet, order.store)?;
+    let store = read_store(alloc, cabinet, order.store)?;
     let asked = read_asked(alloc, cabinet, order.wishes)?;
     let rules = read_rules(alloc, cabinet, order.rules)?;
-    Ok(Drafted { asked, rules })
+    Ok(Drafted {
+        store,
+        asked,
+        rules,
+    })
+}
+
+// The core of what the holder's rules release to an unknown reader.
+fn core_of(alloc: Global, drafted: &Drafted) -> Result<Octets, Memory>
+    requires store { IsStore drafted.now.store }
+    requires request { IsRequest drafted.now.asked.documents }
+    ensures { IfOk result (λ core. core ≡ core_of (draft_seen drafted.now).file.documents (draft_seen drafted.now)) }
+{
+    let store = match Store::read(alloc, drafted.store.as_slice()) {
+        Ok(store) => store,
+        Err(StoreFault::Unread) => unreachable!(),
+        Err(StoreFault::Memory) => return Err(Memory),
+    };
+    let asked = drafted.asked.documents.as_slice();
+    let documents = answer_all(alloc, &store, asked, &drafted.rules)?;
+    write_core(alloc, &documents)
 }
 
 // The line that `draft` prints.
 pub(crate) fn line_of(alloc: Global, drafted: &Drafted) -> Result<Octets, Memory>
-    requires { IsRequest drafted.now.asked.documents }
+    requires store { IsStore drafted.now.store }
+    requires request { IsRequest drafted.now.asked.documents }
     ensures { IfOk result (λ line. line ≡ printed (draft_seen drafted.now)) }
 {
-    let core = core_of_nothing(alloc, drafted.asked.documents.as_slice())?;
+    let core = core_of(alloc, drafted)?;
     let digits = hex::encode(alloc, core.as_slice())?;
     let mut line = b"core ".to_vec(alloc)?;
     line.extend_from_slice(digits.as_bytes())?;

@@ -7,7 +7,9 @@ use std::fmt;
 /// Why a file is outside its form.
 #[derive(Clone, Copy, Debug, PartialEq, Eq)]
 pub enum FormCheck {
-    /// It is outside its grammar or past a limit.
+    /// The line of this number is outside the grammar of a line file.
+    Line,
+    /// It is no store, or past a limit of a store.
     Unread,
 }
 
@@ -16,6 +18,7 @@ impl fmt::Display for FormCheck {
 
     fn fmt<W: fmt::Write>(&self, f: &mut fmt::Formatter<W>) -> fmt::Result {
         match self {
+            FormCheck::Line => f.write_str("Line"),
             FormCheck::Unread => f.write_str("Unread"),
         }
     }

@@ -1,5 +1,7 @@
 // What holds of the definitions alone.
 ghost use Rattle.mdoc_program.specs.Cases.{AbsentAlike, DeniedAlike, OneReleased};
+ghost use Rattle.mdoc_program.specs.Exact.{EachMissingOnce, EachReleasedOnce};
+ghost use Rattle.mdoc_program.specs.Exact.{OnlyMissing, OnlyReleased};
 
 /// The law of a worked case: over the empty store a document that is asked for is answered with an error.
 pub fn absent_document()
@@ -15,4 +17,28 @@ pub fn one_released()
 /// The law of a worked case: an element that is held and denied is reported as one that isn't held.
 pub fn denied_is_as_absent()
     ensures { DeniedAlike }
+{}
+
+/// The law that nothing but what is released stands in an answer: each item that is written is held
+/// by the copy that is shown, under its namespace and for a wish that the rules allow.
+pub fn only_released()
+    ensures { OnlyReleased }
+{}
+
+/// The law that each item that is released for a wish is written once, where no two wishes are for
+/// one element.
+pub fn each_released_once()
+    ensures { EachReleasedOnce }
+{}
+
+/// The law that nothing else is reported as missing: each name that is written as missing is that of
+/// a wish that the rules deny, or whose element the copy that is shown doesn't hold.
+pub fn only_missing()
+    ensures { OnlyMissing }
+{}
+
+/// The law that the name of each such wish is written as missing once, where no two wishes are for
+/// one element.
+pub fn each_missing_once()
+    ensures { EachMissingOnce }
 {}

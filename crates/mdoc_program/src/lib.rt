@@ -2,6 +2,8 @@
 //! call `run`: what `draft` prints is what the holder's rules release, and every other answer has its cause.
 #![tactic(auto)]
 
+mod answered;
+mod answering;
 mod doc_draft;
 mod draft;
 mod draft_order;
@@ -9,11 +11,13 @@ mod drafted;
 mod file_fault;
 mod form_check;
 mod laws;
+mod names;
+mod namespaces;
 mod open_document;
 mod reader_pattern;
 mod reading;
 mod request_draft;
-mod response_core;
+mod response_writer;
 mod role;
 mod rule;
 mod rule_fault;
@@ -31,7 +35,10 @@ mod word_list;
 pub use doc_draft::DocDraft;
 pub use file_fault::FileFault;
 pub use form_check::FormCheck;
-pub use laws::{absent_document, denied_is_as_absent, one_released};
+pub use laws::{
+    absent_document, denied_is_as_absent, each_missing_once, each_released_once, one_released,
+    only_missing, only_released,
+};
 pub use reader_pattern::ReaderPattern;
 pub use request_draft::RequestDraft;
 pub use role::Role;

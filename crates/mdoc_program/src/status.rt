@@ -5,6 +5,7 @@ ghost use Rattle.mdoc_program.specs.declared.status.Status.TheVariants.{Memory};
 
 use crate::{FormCheck, Role};
 use mdoc_outside as outside;
+use mdoc_outside::LimitName;
 use std::alloc::{AllocError, AllocFailed};
 use std::fmt;
 
@@ -23,6 +24,8 @@ pub enum Status {
     Form(Role, FormCheck, u64),
     /// The sink of what is printed failed.
     Sink,
+    /// A limit that is passed, with the number that passes it.
+    Limit(LimitName, u64),
     /// Want of memory.
     Memory,
 }
@@ -39,6 +42,7 @@ impl Status {
             Status::Cabinet => 4,
             Status::Form(..) => 5,
             Status::Sink => 6,
+            Status::Limit(..) => 12,
             Status::Memory => 13,
         }
     }
@@ -55,6 +59,7 @@ impl fmt::Display for Status {
             Status::Cabinet => write!(f, "Cabinet"),
             Status::Form(role, check, at) => write!(f, "Form {role} {check} {at}"),
             Status::Sink => write!(f, "Sink"),
+            Status::Limit(name, number) => write!(f, "Limit {} {number}", name.text()),
             Status::Memory => write!(f, "Memory"),
         }
     }

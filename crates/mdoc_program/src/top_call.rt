@@ -1,21 +1,22 @@
 // The top call: everything that the program does.
 ghost use Rattle.std.specs.Prelude.{◌≡◌, ℕ, Err, IfSome, IsNone};
 ghost use Rattle.mdoc_program.specs.Draft.{draft, printed};
-ghost use Rattle.mdoc_program.specs.Drafted.{draft_seen};
+ghost use Rattle.mdoc_program.specs.Drafted.{draft_seen, IsStore};
 ghost use Rattle.mdoc_program.specs.Order.{draft_order};
 ghost use Rattle.mdoc_program.specs.Request.{IsRequest};
-ghost use Rattle.mdoc_program.specs.Run.{Adds, CabinetFailed, Exactly, OrMemory, OrOutside, Prints, PrintsForAgreeing, PrintsLine, Silent, SinkFailed};
+ghost use Rattle.mdoc_program.specs.Run.{Adds, CabinetFailed, Complete, Exactly, OrMemory, OrOutside, Prints, PrintsForAgreeing, PrintsLine, Silent, SinkFailed};
 
 use crate::draft::{line_of, read_files};
 use crate::draft_order::draft_order;
 use crate::drafted::Drafted;
 use crate::{FormCheck, Role, Status};
-use mdoc_outside::{Cabinet, Sink, SinkFault, Word};
+use mdoc_outside::{Cabinet, LimitName, Sink, SinkFault, Word};
 use std::alloc::Global;
 
 // Prints the line of `draft`.
 fn print_line<O: Sink>(alloc: Global, drafted: &Drafted, out: &mut O) -> Status
-    requires { IsRequest drafted.now.asked.documents }
+    requires store { IsStore drafted.now.store }
+    requires request { IsRequest drafted.now.asked.documents }
     ensures { PrintsLine (printed (draft_seen drafted.now)) (O.put_so_far out.old) (O.put_so_far out.new)
         (O.faults out.old) (O.faults out.new) result }
 {
@@ -43,12 +44,18 @@ pub fn run<C: Cabinet, O: Sink>(
     // Missing exactly for the first file, in their order, of whose name the cabinet has none.
     ensures missing { IfSome (C.files cabinet.old) (λ files. (role : Role) →
         Exactly OrOutside result (Status.Missing role) (draft files words.now ≡ Err (Status.Missing role))) }
-    // Form exactly for the first file, in their order, that is outside its grammar or past a limit.
+    // Form exactly for the first file, in their order, that is outside its grammar, with its first fault.
     ensures form { IfSome (C.files cabinet.old) (λ files. (role : Role) (check : FormCheck) (at : ℕ) →
         Exactly OrOutside result (Status.Form role check at) (draft files words.now ≡ Err (Status.Form role check at))) }
+    // Limit exactly for the first file, in their order, that passes a limit before it is outside its grammar.
+    ensures limit { IfSome (C.files cabinet.old) (λ files. (name : LimitName) (number : ℕ) →
+        Exactly OrOutside result (Status.Limit name number) (draft files words.now ≡ Err (Status.Limit name number))) }
     // Cabinet and Sink only where that object failed in this call, and then the other didn't.
     ensures cabinet { CabinetFailed result (C.faults cabinet.old) (C.faults cabinet.new) }
     ensures sink { SinkFailed result (O.faults out.old) (O.faults out.new) }
+    // Where nothing of this comes, the run is done, or memory was wanting.
+    ensures complete { IfSome (C.files cabinet.old) (λ files. Complete (draft files words.now)
+        (C.faults cabinet.old) (C.faults cabinet.new) (O.faults out.old) (O.faults out.new) result) }
     // With Done the sink has gained the printed core; with Sink and Memory a part from its front; else nothing.
     ensures done { IfSome (C.files cabinet.old) (λ files.
         Prints (O.put_so_far out.old) (O.put_so_far out.new) (Adds result (draft files words.now))) }

@@ -70,12 +70,9 @@ fn words(rt: HostRuntime) -> Result<(), Fail> {
         ),
         (
             "draft --store s --wishes r --rules absent",
-            "Form Wishes Unread 0",
+            "Form Wishes Line 1",
         ),
-        (
-            "draft --store s --wishes w --rules w",
-            "Form Rules Unread 0",
-        ),
+        ("draft --store s --wishes w --rules w", "Form Rules Line 1"),
     ] {
         let outcome = outcome_of(alloc, words, FILES, &[], &[])?;
         assert_eq!(rt; outcome.status.as_str(), status, "{words}");
@@ -114,16 +111,58 @@ fn failing_calls(rt: HostRuntime) -> Result<(), Fail> {
     Ok(())
 }
 
+// Rules that are just short enough, and a store that is too long, before wishes that aren't there.
 #[test]
 fn files_that_are_too_long(rt: HostRuntime) -> Result<(), Fail> {
     let alloc = rt.alloc();
     let mut longest = b"# a comment, and then spaces\n".to_vec(alloc)?;
     longest.resize(16_777_216, b' ')?;
-    for (more, status) in [(0, "Done"), (1, "Form Rules Unread 0")] {
-        longest.resize(16_777_216 + more, b' ')?;
-        let files: &[Named<'_>] = &[("s", EMPTY), ("w", WISHES), ("r", longest.as_slice())];
+    let files: &[Named<'_>] = &[("s", EMPTY), ("w", WISHES), ("r", longest.as_slice())];
+    let outcome = outcome_of(alloc, WORDS, files, &[], &[])?;
+    assert_eq!(rt; outcome.status.as_str(), "Done");
+    longest.push(b' ')?;
+    let files: &[Named<'_>] = &[("s", longest.as_slice()), ("r", RULES)];
+    let outcome = outcome_of(alloc, WORDS, files, &[], &[])?;
+    assert_eq!(rt; outcome.status.as_str(), "Limit FileBytes 16777217");
+    assert!(rt; outcome.printed.is_empty());
+    Ok(())
+}
+
+// The first fault of a line file, as the program tells it.
+#[test]
+fn faults_of_line_files(rt: HostRuntime) -> Result<(), Fail> {
+    let alloc = rt.alloc();
+    let mut many = String::new(alloc);
+    for number in 0u64..17 {
+        many.push_str(format!(in alloc; "document d{number}\nwant n a 0\n")?.as_str())?;
+    }
+    let spoilt = format!(in alloc; "{many}want n\n")?;
+    let bad_before = format!(in alloc; "want n a 0\n{many}")?;
+    for (wishes, rules, status) in [
+        ("", "", "Form Wishes Line 1"),
+        ("document d\n", "", "Form Wishes Line 1"),
+        (
+            "document d\n\n# more\nwant n a 2\n",
+            "allow\n",
+            "Form Wishes Line 4",
+        ),
+        (
+            "document d\nwant n a 0\n",
+            "# all\n\nallow * * * * *\nallow\n",
+            "Form Rules Line 4",
+        ),
+        (many.as_str(), "allow\n", "Limit Documents 17"),
+        (spoilt.as_str(), "", "Limit Documents 17"),
+        (bad_before.as_str(), "", "Form Wishes Line 1"),
+    ] {
+        let files: &[Named<'_>] = &[
+            ("s", EMPTY),
+            ("w", wishes.as_bytes()),
+            ("r", rules.as_bytes()),
+        ];
         let outcome = outcome_of(alloc, WORDS, files, &[], &[])?;
-        assert_eq!(rt; outcome.status.as_str(), status);
+        assert_eq!(rt; outcome.status.as_str(), status, "{wishes} {rules}");
+        assert!(rt; outcome.printed.is_empty(), "{wishes} {rules}");
     }
     Ok(())
 }

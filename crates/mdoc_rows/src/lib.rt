@@ -8,4 +8,6 @@ mod line_files;
 #[cfg(test)]
 mod outcome;
 #[cfg(test)]
+mod released;
+#[cfg(test)]
 mod writing;

@@ -5,9 +5,9 @@ use Rattle.cbor_view.specs.Parts.{parts_at, entries_at}
 use Rattle.cbor_view.specs.Reading.{head_at, inner, item_at, items_at, pairs_at, reads, size, tree_of}
 use Rattle.doc_store.specs.Item.{item}
 use Rattle.doc_store.specs.Store.{store}
-use Rattle.mdoc_program.specs.Core.{core_bytes}
+use Rattle.mdoc_program.specs.Core.{core_bytes, document_bytes}
 use Rattle.mdoc_program.proofs.laws.absent_document.Goals as goal
 
 pub returns : goal.returns
-unfolding chars core_bytes encode entries_at head_at inner is_utf8 item item_at items_at pairs_at parts_at reads size store tree_of
+unfolding chars core_bytes document_bytes encode entries_at head_at inner is_utf8 item item_at items_at pairs_at parts_at reads size store tree_of
 returns c = refl
