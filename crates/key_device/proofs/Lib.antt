@@ -1,4 +1,5 @@
 pub mod PlanLemmas
+pub mod PlanStepLemmas
 mod SameAsk
 mod Splits
 mod TapeAnswers
@@ -6,3 +7,6 @@ mod TapeFileLemmas
 mod TapeLineLemmas
 mod TapeTextLemmas
 mod TapeWordLemmas
+mod WrittenLines
+mod WrittenTapes
+mod WrittenWords

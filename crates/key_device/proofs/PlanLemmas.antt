@@ -119,3 +119,6 @@ one_more {A} {ask} {next} {old} {mid} {new} {outcome} told added rest = record {
     step : (o : Option A) → Fits (next told) rest.gained o → Fits (Then ask next) (exchange ask told ∷ rest.gained) o
     step None fits = (refl, fits)
     step (Some a) fits = (refl, fits)
+
+-- all of these exits, for `using(..)` on a function that asks
+pub ruleset exits = (one_more, then_more, cut_short, ended, unasked)

@@ -1,5 +1,6 @@
 pub mod Asking
 pub mod Plan
+pub mod PlanSteps
 pub mod Question
 pub mod Recording
 pub mod ReplayDevice
@@ -9,3 +10,4 @@ pub mod TapeLine
 pub mod TapeText
 pub mod Toy
 pub mod ToyDevice
+pub mod WrittenTape

@@ -1,6 +1,9 @@
 // A device that keeps what was asked and told.
-ghost use Rattle.std.specs.Prelude.{◌≡◌, ◌≤◌, [], length, drop, IfOk};
+ghost use Rattle.std.specs.Prelude.{◌≡◌, ◌≤◌, [], length, drop, true, IfOk};
+ghost use Rattle.std.specs.List.{list_all};
+ghost use Rattle.key_device.specs.Tape.{is_exchange};
 
+use crate::has_line::have_lines;
 use crate::tape_text::tape_text;
 use crate::{Ask, DeviceFault, Exchange, KeyDevice, Made, Point, Told};
 use mdoc_outside::{Memory, Octets};
@@ -12,10 +15,12 @@ pub struct Recorder<D> {
     device: D,
     talk: Vec<Exchange>,
     alloc: Global,
+    ghost exchanges: { list_all is_exchange talk.items ≡ true },
 }
 
 impl<D> Recorder<D> {
     ghost use Rattle.key_device.specs.Recording.{talk, inner};
+    ghost use Rattle.key_device.specs.TapeFile.{tape_of};
     ghost use Rattle.key_device.specs.TapeText.{tape_text};
 
     /// A recorder round a device, with an empty talk.
@@ -37,12 +42,16 @@ impl<D> Recorder<D> {
         &self.talk
     }
 
-    /// The tape file of the exchanges from that place on. It refuses for want of memory alone.
+    /// The tape file of the exchanges from that place on, which is read as these. It refuses for
+    /// want of memory alone.
     pub fn tape(&self, from: usize) -> Result<Octets, Memory>
         requires { from ≤ length (talk self.now) }
-        ensures { IfOk result (λ tape. tape ≡ tape_text (drop from (talk self.now))) }
+        ensures text { IfOk result (λ tape. tape ≡ tape_text (drop from (talk self.now))) }
+        ensures read { IfOk result (λ tape. tape_of tape ≡ Ok (drop from (talk self.now))) }
     {
-        Ok(Octets::from_vec(tape_text(self.alloc, &self.talk[from..])?))
+        let exchanges = &self.talk[from..];
+        have_lines(exchanges);
+        Ok(Octets::from_vec(tape_text(self.alloc, exchanges)?))
     }
 }
 

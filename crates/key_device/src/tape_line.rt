@@ -101,26 +101,30 @@ fn agree_of(key: &[u8], x: &[u8], y: &[u8], word: &[u8]) -> Option<Exchange>
     })
 }
 
-fn verify_of(
-    alloc: Global,
-    x: &[u8],
-    y: &[u8],
-    message: &[u8],
-    signature: &[u8],
-    word: &[u8],
-) -> Result<Option<Exchange>, Memory>
-    ensures { IfOk result (λ e. e ≡ verify_of x.now y.now message.now signature.now word.now) }
+// What a line says of a signature: X Y MESSAGE SIGNATURE, and what was told.
+#[derive(Clone, Copy)]
+struct VerifyWords<'a> {
+    x: &'a [u8],
+    y: &'a [u8],
+    message: &'a [u8],
+    signature: &'a [u8],
+    word: &'a [u8],
+}
+
+fn verify_of(alloc: Global, words: &VerifyWords<'_>) -> Result<Option<Exchange>, Memory>
+    ensures { IfOk result (λ e. e ≡ verify_of words.now.x.now words.now.y.now
+        words.now.message.now words.now.signature.now words.now.word.now) }
 {
-    let Some(public) = point_of(x, y) else {
+    let Some(public) = point_of(words.x, words.y) else {
         return Ok(None);
     };
-    let Some(message) = message_of(alloc, message)? else {
+    let Some(message) = message_of(alloc, words.message)? else {
         return Ok(None);
     };
-    let Some(signature) = bytes_of(signature) else {
+    let Some(signature) = bytes_of(words.signature) else {
         return Ok(None);
     };
-    let Some(told) = told_of_verify(word) else {
+    let Some(told) = told_of_verify(words.word) else {
         return Ok(None);
     };
     Ok(Some(Exchange {
@@ -193,18 +197,14 @@ fn six_of(
 fn seven_of(
     alloc: Global,
     kind: &[u8],
-    x: &[u8],
-    y: &[u8],
-    message: &[u8],
-    signature: &[u8],
     arrow: &[u8],
-    word: &[u8],
+    words: &VerifyWords<'_>,
 ) -> Result<Option<Exchange>, Memory>
-    ensures { IfOk result (λ e.
-        e ≡ seven_of kind.now x.now y.now message.now signature.now arrow.now word.now) }
+    ensures { IfOk result (λ e. e ≡ seven_of kind.now words.now.x.now words.now.y.now
+        words.now.message.now words.now.signature.now arrow.now words.now.word.now) }
 {
     if has_form(kind, b"verify", arrow) {
-        verify_of(alloc, x, y, message, signature, word)
+        verify_of(alloc, words)
     } else {
         Ok(None)
     }
@@ -220,7 +220,14 @@ fn exchange_of(alloc: Global, words: &[&[u8]]) -> Result<Option<Exchange>, Memor
         [kind, one, two, three, four] => five_of(alloc, kind, one, two, three, four),
         [kind, key, x, y, arrow, word] => Ok(six_of(kind, key, x, y, arrow, word)),
         [kind, x, y, message, signature, arrow, word] => {
-            seven_of(alloc, kind, x, y, message, signature, arrow, word)
+            let words = VerifyWords {
+                x,
+                y,
+                message,
+                signature,
+                word,
+            };
+            seven_of(alloc, kind, arrow, &words)
         }
         _ => Ok(None),
     }

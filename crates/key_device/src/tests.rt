@@ -199,3 +199,10 @@ fn tapes_are_read_strictly(rt: HostRuntime) -> Result<(), Fail> {
     }
     Ok(())
 }
+
+#[test]
+fn devices_cross_threads() {
+    crosses::<ToyDevice>();
+    followed_plan_over_its_talk::<u8>();
+    written_tape_is_read();
+}
