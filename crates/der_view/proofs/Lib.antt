@@ -1,0 +1,4 @@
+pub mod Lengths
+pub mod Elements
+pub mod Listing
+pub mod OneList
