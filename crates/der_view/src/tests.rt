@@ -108,6 +108,10 @@ fn tells_the_parts_in_order(rt: HostRuntime) -> Result<(), Fail> {
         assert_eq!(rt; part.body(), body);
     }
     assert!(rt; parts.next().is_none());
+    let single = Der::read(b"\x30\x03\x02\x01\x05").ok().ok_or("a sequence")?;
+    let mut parts = single.parts();
+    assert!(rt; parts.next().is_some());
+    assert!(rt; parts.next().is_none());
     Ok(())
 }
 
