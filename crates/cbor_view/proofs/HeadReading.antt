@@ -20,7 +20,7 @@ pub AreBytes-behind : (front rest : List ℕ) → AreBytes (front ++ rest) → A
 AreBytes-behind [] rest h = h
 AreBytes-behind (x ∷ xs) rest h = AreBytes-behind xs rest (record { each = λ i. h.each (suc i) })
 
-front-each : (front rest : List ℕ) → AreBytes (front ++ rest) → (i : ℕ) → get_or front i 0 < 256
+pub front-each : (front rest : List ℕ) → AreBytes (front ++ rest) → (i : ℕ) → get_or front i 0 < 256
 front-each [] rest h i = omega arith
 front-each (x ∷ xs) rest h zero = h.each 0
 front-each (x ∷ xs) rest h (suc i) = front-each xs rest (record { each = λ k. h.each (suc k) }) i

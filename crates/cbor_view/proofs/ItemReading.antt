@@ -148,19 +148,19 @@ pub record ReadAs (d : ℕ) (bytes : List ℕ) (t : Tree) (rest : List ℕ) : Ty
 pub record IsSound (d : ℕ) (one : Reader Tree) : Type 0 where
   pub each : (bytes rest : List ℕ) (t : Tree) → AreBytes bytes → one bytes ≡ read t rest → ReadAs d bytes t rest
 
-record AllRead (d n : ℕ) (bytes : List ℕ) (ts : Trees) (rest : List ℕ) : Type 0 where
-  front : List ℕ
-  spelled : AllSpelled ts front
-  nesting : levels_of_all ts ≤ d
-  counts : count ts ≡ n
-  whole : bytes ≡ front ++ rest
+pub record AllRead (d n : ℕ) (bytes : List ℕ) (ts : Trees) (rest : List ℕ) : Type 0 where
+  pub front : List ℕ
+  pub spelled : AllSpelled ts front
+  pub nesting : levels_of_all ts ≤ d
+  pub counts : count ts ≡ n
+  pub whole : bytes ≡ front ++ rest
 
-record PairsRead (d n : ℕ) (bytes : List ℕ) (ps : Pairs) (rest : List ℕ) : Type 0 where
-  front : List ℕ
-  spelled : PairsSpelled ps front
-  nesting : levels_of_pairs ps ≤ d
-  counts : pair_count ps ≡ n
-  whole : bytes ≡ front ++ rest
+pub record PairsRead (d n : ℕ) (bytes : List ℕ) (ps : Pairs) (rest : List ℕ) : Type 0 where
+  pub front : List ℕ
+  pub spelled : PairsSpelled ps front
+  pub nesting : levels_of_pairs ps ≤ d
+  pub counts : pair_count ps ≡ n
+  pub whole : bytes ≡ front ++ rest
 
 finished : (d : ℕ) (bytes front mid rest : List ℕ) (t u : Tree) → Spelled t front → levels t ≤ d → bytes ≡ front ++ mid → read t mid ≡ read u rest → ReadAs d bytes u rest
 finished d bytes front mid rest t u s l w e = subst (λ x. ReadAs d bytes x rest) (first-same (t, mid) (u, rest) e) (record { front = front; spelled = s; nesting = l; whole = w ∙ ap (λ r. front ++ r) (second-same (t, mid) (u, rest) e) })
@@ -174,7 +174,7 @@ joined a b c d e p q = p ∙ ap (λ x. b ++ x) q ∙ sym (append_assoc b d e)
 more_items : Reader Tree → ℕ → Tree × List ℕ → Result (Trees × List ℕ) Stop
 more_items one n t = items_at one n t.1 >>= λ ts. read (more t.0 ts.0) ts.1
 
-items-sound : (d : ℕ) (one : Reader Tree) → IsSound d one → (n : ℕ) (bytes rest : List ℕ) (ts : Trees) → AreBytes bytes → items_at one n bytes ≡ read ts rest → AllRead d n bytes ts rest
+pub items-sound : (d : ℕ) (one : Reader Tree) → IsSound d one → (n : ℕ) (bytes rest : List ℕ) (ts : Trees) → AreBytes bytes → items_at one n bytes ≡ read ts rest → AllRead d n bytes ts rest
 unfolding items_at more_items
 items-sound d one s zero bytes rest ts are e = subst (λ x. AllRead d 0 bytes x rest) (first-same (none, bytes) (ts, rest) e) (record { front = []; spelled = refl; nesting = omega arith; counts = refl; whole = second-same (none, bytes) (ts, rest) e })
 items-sound d one s (suc n) bytes rest ts are e =
@@ -195,7 +195,7 @@ items-sound d one s (suc n) bytes rest ts are e =
 more_pairs : Reader Tree → ℕ → Tree × List ℕ → Result (Pairs × List ℕ) Stop
 more_pairs one n k = one k.1 >>= λ v. pairs_at one n v.1 >>= λ ps. read (pair k.0 v.0 ps.0) ps.1
 
-pairs-sound : (d : ℕ) (one : Reader Tree) → IsSound d one → (n : ℕ) (bytes rest : List ℕ) (ps : Pairs) → AreBytes bytes → pairs_at one n bytes ≡ read ps rest → PairsRead d n bytes ps rest
+pub pairs-sound : (d : ℕ) (one : Reader Tree) → IsSound d one → (n : ℕ) (bytes rest : List ℕ) (ps : Pairs) → AreBytes bytes → pairs_at one n bytes ≡ read ps rest → PairsRead d n bytes ps rest
 unfolding pairs_at more_pairs
 pairs-sound d one s zero bytes rest ps are e = subst (λ x. PairsRead d 0 bytes x rest) (first-same (no_pair, bytes) (ps, rest) e) (record { front = []; spelled = refl; nesting = omega arith; counts = refl; whole = second-same (no_pair, bytes) (ps, rest) e })
 pairs-sound d one s (suc n) bytes rest ps are e =

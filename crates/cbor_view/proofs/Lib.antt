@@ -9,3 +9,9 @@ pub mod Listing
 pub mod Places
 pub mod ShortestSpelling
 pub mod Depth
+pub mod Glancing
+pub mod GlancePlaces
+pub mod GlanceParts
+pub mod GlanceOpening
+pub mod FaultKinds
+pub mod GlanceLaws

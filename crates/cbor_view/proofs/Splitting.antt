@@ -25,13 +25,13 @@ tree-read : (bytes : List ℕ) (t : Tree) → reads bytes ≡ Ok t → tree_of b
 unfolding tree_of
 tree-read bytes t e = ap tree_or_null e
 
-record IsFirst (t : Tree) (front rest : List ℕ) : Type 0 where
-  size_is : size (front ++ rest) ≡ length front
-  front_is : take (size (front ++ rest)) (front ++ rest) ≡ front
-  rest_is : drop (size (front ++ rest)) (front ++ rest) ≡ rest
-  reads_is : reads front ≡ Ok t
+pub record IsFirst (t : Tree) (front rest : List ℕ) : Type 0 where
+  pub size_is : size (front ++ rest) ≡ length front
+  pub front_is : take (size (front ++ rest)) (front ++ rest) ≡ front
+  pub rest_is : drop (size (front ++ rest)) (front ++ rest) ≡ rest
+  pub reads_is : reads front ≡ Ok t
 
-is-first : (t : Tree) (front rest : List ℕ) → Spelled t front → levels t ≤ 32 → IsFirst t front rest
+pub is-first : (t : Tree) (front rest : List ℕ) → Spelled t front → levels t ≤ 32 → IsFirst t front rest
 is-first t front rest s l =
     let e = size-read (front ++ rest) rest t (item-again t 32 front rest s l) in
     let n : size (front ++ rest) ≡ length front = omega (arith, e, length-append front rest) in
@@ -97,15 +97,15 @@ pub record Splits (bytes : List ℕ) (h : Head) (body : List ℕ) (t : Tree) : T
 splits : (bytes front body : List ℕ) (h : Head) (t : Tree) → bytes ≡ front ++ body → HeadOf h front → Opens h body t → Splits bytes h body t
 splits bytes front body h t whole is o = record { head = ap head_at whole ∙ typed-again h front body is; opens = o }
 
-record IsSplit (bytes : List ℕ) (t : Tree) : Type 0 where
-  h : Head
-  body : List ℕ
-  splits : Splits bytes h body t
+pub record IsSplit (bytes : List ℕ) (t : Tree) : Type 0 where
+  pub h : Head
+  pub body : List ℕ
+  pub splits : Splits bytes h body t
 
 leaf : (bytes : List ℕ) (h : Head) (t : Tree) → HeadOf h bytes → Opens h [] t → IsSplit bytes t
 leaf bytes h t is o = record { h = h; body = []; splits = splits bytes bytes [] h t (sym (append-nil bytes)) is o }
 
-split-spelled : (t : Tree) (bytes : List ℕ) → Spelled t bytes → levels t ≤ 32 → IsSplit bytes t
+pub split-spelled : (t : Tree) (bytes : List ℕ) → Spelled t bytes → levels t ≤ 32 → IsSplit bytes t
 split-spelled (Unsigned n) bytes s l = leaf bytes (heads.Unsigned n) (Unsigned n) s refl
 split-spelled (Negative n) bytes s l = leaf bytes (heads.Negative n) (Negative n) s refl
 split-spelled (Simple n) bytes s l = leaf bytes (heads.Simple n) (Simple n) s refl

@@ -1,11 +1,14 @@
 //! Laws of spellings (RFC 8949, section 3). Each is the contract of a function that does nothing.
 
-ghost use Rattle.std.specs.Prelude.{◌≡◌, ◌↔◌, ℕ, ◌≤◌, List, [], ◌++◌, length, Ok};
+ghost use Rattle.std.specs.Prelude.{◌≡◌, ◌↔◌, ℕ, ◌≤◌, List, [], ◌++◌, length, take, Some, Ok, Err};
+ghost use Rattle.cbor_view.specs.declared.cbor_kind.CborKind.TheVariants.{Trailing};
+ghost use Rattle.cbor_view.specs.declared.cbor_fault.CborFault.{CborFault};
 ghost use Rattle.cbor_view.specs.Tree.{Tree, levels};
 ghost use Rattle.cbor_view.specs.Spelling.{AreBytes, Spells, Fits};
 ghost use Rattle.cbor_view.specs.Shortest.{shortest};
 ghost use Rattle.cbor_view.specs.Reading.{reads};
 ghost use Rattle.cbor_view.specs.Parts.{Part, LiesIn};
+ghost use Rattle.cbor_view.specs.Glance.{whole, glance, fault_in};
 
 /// Bytes spell at most one tree.
 pub fn one_tree()
@@ -36,4 +39,19 @@ pub fn shortest_least()
 /// A part of a part of an item stands within the item.
 pub fn within_within()
     ensures { (a b c : Part) → LiesIn a b → LiesIn b c → LiesIn a c }
+{}
+
+/// A glance at bytes that are one item is that item, whole.
+pub fn whole_glance()
+    ensures { (bytes : List ℕ) (t : Tree) → reads bytes ≡ Ok t → glance bytes ≡ whole (record { at = 0; bytes = bytes }) }
+{}
+
+/// The first fault of bytes is the one of the glance at them, but for bytes behind the item.
+pub fn glance_fault()
+    ensures { (bytes : List ℕ) (fault : CborFault) → AreBytes bytes → reads bytes ≡ Err fault → (fault.kind ≡ Trailing → ⊥) → fault_in (glance bytes) ≡ Some fault }
+{}
+
+/// A glance at an item with bytes behind it is the item, whole.
+pub fn front_glance()
+    ensures { (bytes : List ℕ) (fault : CborFault) → reads bytes ≡ Err fault → fault.kind ≡ Trailing → glance bytes ≡ whole (record { at = 0; bytes = take fault.at bytes }) }
 {}

@@ -1,5 +1,8 @@
 //! What may be handed to another thread and shared with it.
 
+use crate::glance::Glance;
+use crate::glance_items::GlanceItems;
+use crate::glance_pairs::GlancePairs;
 use crate::items::Items;
 use crate::pairs::Pairs;
 use crate::view::View;
@@ -8,7 +11,7 @@ fn is_send<T: Send>() {}
 
 fn is_sync<T: Sync>() {}
 
-/// Views and what iterates over them may be handed to another thread, and shared with it.
+/// Views, glances and what iterates over them may be handed to another thread, and shared with it.
 pub fn crosses() {
     is_send::<View<'static>>();
     is_sync::<View<'static>>();
@@ -16,4 +19,10 @@ pub fn crosses() {
     is_sync::<Items<'static>>();
     is_send::<Pairs<'static>>();
     is_sync::<Pairs<'static>>();
+    is_send::<Glance<'static>>();
+    is_sync::<Glance<'static>>();
+    is_send::<GlanceItems<'static>>();
+    is_sync::<GlanceItems<'static>>();
+    is_send::<GlancePairs<'static>>();
+    is_sync::<GlancePairs<'static>>();
 }

@@ -331,3 +331,85 @@ fn goes_under_tags(rt: HostRuntime) -> Result<(), Fail> {
     crosses();
     Ok(())
 }
+
+/// {"a": 1, "b": [2], "c": "xyz"}, cut in the third value.
+const CUT_MAP: &[u8] = b"\xa3\x61a\x01\x61b\x81\x02\x61c\x63xy";
+
+#[test]
+fn glances_at_a_cut_map(rt: HostRuntime) -> Result<(), Fail> {
+    let glance = Glance::read(CUT_MAP);
+    let truncated = CborFault {
+        kind: CborKind::Truncated,
+        at: 10,
+    };
+    assert_eq!(rt; glance.fault(), Some(truncated));
+    assert_eq!(rt; glance.fault(), View::read(CUT_MAP).err());
+    assert!(rt; glance.view().is_none());
+    assert!(rt; glance.items().is_none());
+    assert!(rt; glance.tag().is_none());
+    let mut pairs = glance.pairs().ok_or("a map")?;
+    for (key_at, value_at, fault) in [(1, 3, None), (4, 6, None), (8, 10, Some(truncated))] {
+        let (key, value) = pairs.next().ok_or("a pair")?;
+        let value = value.ok_or("a value")?;
+        assert_eq!(rt; (key.at(), value.at()), (key_at, value_at));
+        assert_eq!(rt; (key.fault(), value.fault()), (None, fault));
+    }
+    assert!(rt; pairs.next().is_none());
+    Ok(())
+}
+
+#[test]
+fn glances_at_a_broken_item(rt: HostRuntime) -> Result<(), Fail> {
+    // [1, 24([2, a break, 3
+    let glance = Glance::read(b"\x83\x01\xd8\x18\x82\x02\xff\x03");
+    let reserved = CborFault {
+        kind: CborKind::Reserved,
+        at: 6,
+    };
+    assert_eq!(rt; (glance.at(), glance.fault()), (0, Some(reserved)));
+    assert!(rt; glance.pairs().is_none());
+    let mut items = glance.items().ok_or("an array")?;
+    let first = items.next().ok_or("an item")?;
+    assert_eq!(rt; (first.at(), first.fault()), (1, None));
+    assert_eq!(rt; first.view().ok_or("a number")?.uint(), Some(1));
+    let second = items.next().ok_or("an item")?;
+    assert_eq!(rt; (second.at(), second.fault()), (2, Some(reserved)));
+    assert!(rt; items.next().is_none());
+    let (number, inner) = second.tag().ok_or("a tag")?;
+    assert_eq!(rt;
+        (number, inner.at(), inner.fault()),
+        (24, 4, Some(reserved))
+    );
+    let broken = inner.items().ok_or("an array")?.nth(1).ok_or("an item")?;
+    assert_eq!(rt; (broken.at(), broken.fault()), (6, Some(reserved)));
+    assert!(rt; broken.items().is_none());
+    // the second key is broken
+    let (key, value) = Glance::read(b"\xa2\x01\x02\x1c\x03")
+        .pairs()
+        .ok_or("a map")?
+        .nth(1)
+        .ok_or("a pair")?;
+    assert_eq!(rt; (key.at(), value.is_none()), (3, true));
+    Ok(())
+}
+
+#[test]
+fn glances_at_a_whole_item(rt: HostRuntime) -> Result<(), Fail> {
+    // {1: [2, 3]} and a byte
+    let glance = Glance::read(b"\xa1\x01\x82\x02\x03\x00");
+    assert_eq!(rt; glance.fault(), None);
+    let view = glance.view().ok_or("an item")?;
+    assert_eq!(rt; view.span(), (0, 5));
+    let mut pairs = glance.pairs().ok_or("a map")?;
+    let (key, value) = pairs.next().ok_or("a pair")?;
+    assert_eq!(rt; key.view().ok_or("a key")?.uint(), Some(1));
+    let value = value.ok_or("a value")?;
+    assert_eq!(rt; value.view().ok_or("a value")?.span(), (2, 5));
+    let mut items = value.items().ok_or("an array")?;
+    for at in [3, 4] {
+        assert_eq!(rt; items.next().ok_or("an item")?.at(), at);
+    }
+    assert!(rt; items.next().is_none());
+    assert!(rt; pairs.next().is_none());
+    Ok(())
+}

@@ -18,7 +18,7 @@ use crate::pairs::Pairs;
 use crate::walk::skip;
 
 /// The most levels of nesting that an item may have.
-const MOST_LEVELS: u32 = 32;
+pub(crate) const MOST_LEVELS: u32 = 32;
 
 /// One item (RFC 8949, section 3): the bytes that spell it, and their place in the bytes first read.
 #[derive(Clone, Copy)]

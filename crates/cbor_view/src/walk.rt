@@ -9,7 +9,7 @@ use crate::heads::{Head, read_head};
 use crate::stop::Stop;
 
 /// The first length and the first count that is too large.
-const LENGTHS_END: u64 = 0x1_0000_0000;
+pub(crate) const LENGTHS_END: u64 = 0x1_0000_0000;
 
 /// What stands behind the item at the front, which may have so many levels.
 #[cycle(walk)]

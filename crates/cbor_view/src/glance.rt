@@ -1,0 +1,185 @@
+//! A glance at an item, as far as it is spelled.
+
+ghost use Rattle.std.specs.Prelude.{◌≡◌, ◌+◌, ◌<◌, ◌≤◌, ◌^◌, length, option_map, is_some, is_none, IfSome};
+ghost use Rattle.cbor_view.specs.Spelling.{AreBytes};
+ghost use Rattle.cbor_view.specs.Begun.{array_count, map_count, tag_number};
+ghost use Rattle.cbor_view.specs.Glance.{glance, fault_in, place_in, whole_in, items_glanced, pairs_glanced, tag_glanced};
+
+use crate::cbor_fault::CborFault;
+use crate::glance_items::GlanceItems;
+use crate::glance_pairs::GlancePairs;
+use crate::heads::{Head, read_head};
+use crate::view::{MOST_LEVELS, View};
+use crate::walk::{LENGTHS_END, skip};
+
+/// One item (RFC 8949, section 3) as far as it is spelled: the bytes from its head to the end of the
+/// file, and their place there. It need not be whole.
+#[derive(Clone, Copy)]
+pub struct Glance<'a> {
+    pub(crate) rest: &'a [u8],
+    pub(crate) at: usize,
+    pub(crate) levels: u32,
+    ghost in_range: { at + length rest.now < 2 ^ 64 },
+    ghost most: { levels ≤ 32 },
+    ghost each: { AreBytes rest.now },
+}
+
+impl<'a> Glance<'a> {
+    ghost use Rattle.cbor_view.specs.View.{part};
+    ghost use Rattle.cbor_view.specs.Glanced.{from, levelled, glanced, next_from};
+    ghost use Rattle.cbor_view.specs.GlanceItems.{glances_left};
+    ghost use Rattle.cbor_view.specs.GlancePairs.{pair_glances_left};
+    ghost use Rattle.cbor_view.specs.Begun.{begun};
+
+    /// The item at the front of a file, in the profile that `View::read` has. Bytes may stand behind it.
+    pub fn read(bytes: &'a [u8]) -> Glance<'a>
+        ensures { glanced result ≡ glance bytes.now }
+    {
+        Glance {
+            rest: bytes,
+            at: 0,
+            levels: MOST_LEVELS,
+        }
+    }
+
+    /// The place of its head in the file.
+    pub fn at(&self) -> usize
+        ensures { result ≡ place_in (glanced self.now) }
+    {
+        self.at
+    }
+
+    /// The item, where it is whole.
+    pub fn view(&self) -> Option<View<'a>>
+        ensures { option_map part result ≡ whole_in (glanced self.now) }
+    {
+        match skip(self.rest, self.levels) {
+            Ok(behind) => {
+                let (slice, _) = self.rest.split_at(self.rest.len() - behind.len());
+                Some(View { slice, at: self.at })
+            }
+            Err(_) => None,
+        }
+    }
+
+    /// Its first fault, none exactly where it is whole. Bytes behind it are no fault.
+    pub fn fault(&self) -> Option<CborFault>
+        ensures exact { result ≡ fault_in (glanced self.now) }
+        ensures whole { is_some (whole_in (glanced self.now)) ≡ is_none result }
+        ensures behind { IfSome result (λ f. place_in (glanced self.now) ≤ f.at) }
+    {
+        match skip(self.rest, self.levels) {
+            Ok(_) => None,
+            Err(stop) => Some(CborFault {
+                kind: stop.kind,
+                at: (self.at + self.rest.len()).saturating_sub(stop.left),
+            }),
+        }
+    }
+
+    /// The items of an array (major type 4) up to the first that isn't whole, that one too. None where
+    /// it is no array, or its count or depth is past the limits.
+    pub fn items(&self) -> Option<GlanceItems<'a>>
+        ensures { option_map glances_left result ≡ items_glanced (glanced self.now) }
+    {
+        let Some((head, front)) = self.inside() else {
+            return None;
+        };
+        match array_count(head) {
+            Some(count) => Some(GlanceItems { front, count }),
+            None => None,
+        }
+    }
+
+    /// The pairs of a map (major type 5) up to the first that isn't whole, that one too: it has no value
+    /// where its key isn't whole. None where it is no map, or its count or depth is past the limits.
+    pub fn pairs(&self) -> Option<GlancePairs<'a>>
+        ensures { option_map pair_glances_left result ≡ pairs_glanced (glanced self.now) }
+    {
+        let Some((head, front)) = self.inside() else {
+            return None;
+        };
+        match map_count(head) {
+            Some(count) => Some(GlancePairs { front, count }),
+            None => None,
+        }
+    }
+
+    /// The number of a tag (major type 6), and what stands under it. None where it is no tag, or its
+    /// depth is past the limit.
+    pub fn tag(&self) -> Option<(u64, Glance<'a>)>
+        ensures { option_map (λ x. (x.0, glanced x.1)) result ≡ tag_glanced (glanced self.now) }
+    {
+        let Some((head, inner)) = self.inside() else {
+            return None;
+        };
+        match tag_number(head) {
+            Some(number) => Some((number, inner)),
+            None => None,
+        }
+    }
+
+    /// What stands behind it, where it is whole.
+    pub(crate) fn behind(&self) -> Option<Glance<'a>>
+        ensures { option_map levelled result ≡ next_from self.now }
+    {
+        match skip(self.rest, self.levels) {
+            Ok(rest) => Some(Glance {
+                rest,
+                at: self.at + (self.rest.len() - rest.len()),
+                levels: self.levels,
+            }),
+            Err(_) => None,
+        }
+    }
+
+    /// Its head, and what stands behind it, one level deeper where there may be one.
+    fn inside(&self) -> Option<(Head, Glance<'a>)>
+        ensures { option_map (λ x. (x.0, levelled x.1)) result ≡ begun self.now.levels (from self.now) }
+    {
+        if self.levels == 0 {
+            return None;
+        }
+        match read_head(self.rest) {
+            Ok((head, rest)) => {
+                let front = Glance {
+                    rest,
+                    at: self.at + (self.rest.len() - rest.len()),
+                    levels: self.levels - 1,
+                };
+                Some((head, front))
+            }
+            Err(_) => None,
+        }
+    }
+}
+
+/// The count of an array, where it is within the limit.
+fn array_count(head: Head) -> Option<u64>
+    ensures { result ≡ array_count head }
+{
+    match head {
+        Head::Array(count) if count < LENGTHS_END => Some(count),
+        _ => None,
+    }
+}
+
+/// The count of a map, where it is within the limit.
+fn map_count(head: Head) -> Option<u64>
+    ensures { result ≡ map_count head }
+{
+    match head {
+        Head::Map(count) if count < LENGTHS_END => Some(count),
+        _ => None,
+    }
+}
+
+/// The number of a tag.
+fn tag_number(head: Head) -> Option<u64>
+    ensures { result ≡ tag_number head }
+{
+    match head {
+        Head::Tag(number) => Some(number),
+        _ => None,
+    }
+}
