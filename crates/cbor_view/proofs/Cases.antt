@@ -39,12 +39,12 @@ unfolding reads item_at items_at pairs_at head_at is_utf8 chars encode
 trailing = refl
 
 -- [1, a reserved head, ..
-array-glance : glance (0x83 ∷ 0x01 ∷ 0x1c ∷ []) ≡ in_array 0 (record { at = 1; bytes = 0x01 ∷ [] } ∷ []) (broken (record { kind = Reserved; at = 2 }))
+array-glance : glance (0x83 ∷ 0x01 ∷ 0x1c ∷ []) ≡ in_array 0 3 (record { at = 1; bytes = 0x01 ∷ [] } ∷ []) (broken (record { kind = Reserved; at = 2 }))
 unfolding glance_at run item_at items_at head_at
 array-glance = refl
 
 -- {1: 2, 3: 1([, the second value cut in an array under a tag
-value-glance : glance (0xa3 ∷ 0x01 ∷ 0x02 ∷ 0x03 ∷ 0xc1 ∷ 0x81 ∷ []) ≡ in_value 0 ((record { at = 1; bytes = 0x01 ∷ [] }, record { at = 2; bytes = 0x02 ∷ [] }) ∷ []) (record { at = 3; bytes = 0x03 ∷ [] }) (in_tag 4 1 (in_array 5 [] (broken (record { kind = Truncated; at = 6 }))))
+value-glance : glance (0xa3 ∷ 0x01 ∷ 0x02 ∷ 0x03 ∷ 0xc1 ∷ 0x81 ∷ []) ≡ in_value 0 ((record { at = 1; bytes = 0x01 ∷ [] }, record { at = 2; bytes = 0x02 ∷ [] }) ∷ []) (record { at = 3; bytes = 0x03 ∷ [] }) (in_tag 4 1 (in_array 5 1 [] (broken (record { kind = Truncated; at = 6 }))))
 unfolding glance_at run item_at items_at pairs_at head_at
 value-glance = refl
 

@@ -50,7 +50,7 @@ opened-none : (k : ℕ) (p : Part) (r : Result (Head × List ℕ) CborKind) → 
 opened-none k p (Ok x) e = absurd (cc)
 opened-none k p (Err kind) e = (kind, refl)
 
-array-is : (h : Head) (n : ℕ) → Some n ≡ array_count h → (h ≡ heads.Array n) × (nat_lt n (2 ^ 32) ≡ true)
+pub array-is : (h : Head) (n : ℕ) → Some n ≡ array_count h → (h ≡ heads.Array n) × (nat_lt n (2 ^ 32) ≡ true)
 array-is (heads.Unsigned m) n e = absurd (cc)
 array-is (heads.Negative m) n e = absurd (cc)
 array-is (heads.Bytes m) n e = absurd (cc)
@@ -101,8 +101,8 @@ array-cut-open k n p rest s are h t i =
     let r = items-stop k n (body_of p rest) s l.are e in
     ap items_glanced (glance-cut k p s i)
     ∙ (ap (λ (y : Result (Head × List ℕ) CborKind). items_glanced (cut k (glance_at k) p s.kind y)) h
-    ∙ (ap (λ b. items_glanced (if b then array_cut (glance_at k) p.at (run (item_first k) n (body_of p rest)) else own p s.kind)) t
-    ∙ (ap (λ (w : List Part × Part). items_glanced (array_cut (glance_at k) p.at w)) r.run_is
+    ∙ (ap (λ b. items_glanced (if b then array_cut (glance_at k) p.at n (run (item_first k) n (body_of p rest)) else own p s.kind)) t
+    ∙ (ap (λ (w : List Part × Part). items_glanced (array_cut (glance_at k) p.at n w)) r.run_is
     ∙ ap (λ (gs : List Glance). Some gs) (sym r.row_is))))
 
 array-whole-open : (k n : ℕ) (p : Part) (rest : List ℕ) (x : Tree × List ℕ) → suc k ≤ 32 → AreBytes p.bytes → head_at p.bytes ≡ Ok (heads.Array n, rest) → nat_lt n (2 ^ 32) ≡ true → item_at (suc k) p.bytes ≡ Ok x → items_glanced (glance_at (suc k) p) ≡ Some (sights (glance_at k) (item_first k) n (body_of p rest))
@@ -332,7 +332,7 @@ no-map-cut k one p kind (heads.Unsigned n) rest z = refl
 no-map-cut k one p kind (heads.Negative n) rest z = refl
 no-map-cut k one p kind (heads.Bytes n) rest z = refl
 no-map-cut k one p kind (heads.Text n) rest z = refl
-no-map-cut k one p kind (heads.Array n) rest z = elim (nat_lt n (2 ^ 32)) as (λ b. None ≡ pairs_glanced (if b then array_cut one p.at (run (item_first k) n (body_of p rest)) else own p kind)) [ true ↦ refl | false ↦ refl ]
+no-map-cut k one p kind (heads.Array n) rest z = elim (nat_lt n (2 ^ 32)) as (λ b. None ≡ pairs_glanced (if b then array_cut one p.at n (run (item_first k) n (body_of p rest)) else own p kind)) [ true ↦ refl | false ↦ refl ]
 no-map-cut k one p kind (heads.Map n) rest z = elim (if-cases (nat_lt n (2 ^ 32)) (Some n) None None (sym z)) [ inl j ↦ absurd (cc) | inr j ↦ let t : nat_lt n (2 ^ 32) ≡ false = j.0 in rw t refl ]
 no-map-cut k one p kind (heads.Tag n) rest z = refl
 no-map-cut k one p kind (heads.Simple n) rest z = refl
@@ -418,7 +418,7 @@ no-tag-cut k one p kind (heads.Unsigned n) rest z = refl
 no-tag-cut k one p kind (heads.Negative n) rest z = refl
 no-tag-cut k one p kind (heads.Bytes n) rest z = refl
 no-tag-cut k one p kind (heads.Text n) rest z = refl
-no-tag-cut k one p kind (heads.Array n) rest z = elim (nat_lt n (2 ^ 32)) as (λ b. None ≡ tag_glanced (if b then array_cut one p.at (run (item_first k) n (body_of p rest)) else own p kind)) [ true ↦ refl | false ↦ refl ]
+no-tag-cut k one p kind (heads.Array n) rest z = elim (nat_lt n (2 ^ 32)) as (λ b. None ≡ tag_glanced (if b then array_cut one p.at n (run (item_first k) n (body_of p rest)) else own p kind)) [ true ↦ refl | false ↦ refl ]
 no-tag-cut k one p kind (heads.Map n) rest z = let w = run (pair_first k) n (body_of p rest) in elim (nat_lt n (2 ^ 32)) as (λ b. None ≡ tag_glanced (if b then map_cut k one p.at w else own p kind)) [ true ↦ no-tag-entry one p.at w.0 w.1 (item_first k w.1) | false ↦ refl ]
 no-tag-cut k one p kind (heads.Tag n) rest z = absurd (cc)
 no-tag-cut k one p kind (heads.Simple n) rest z = refl

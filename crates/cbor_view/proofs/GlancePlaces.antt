@@ -72,7 +72,7 @@ entry-after : (d : ℕ) → After d → (at : ℕ) (es : List (Part × Part)) (q
 entry-after d h at es q None f i e = h.each q f e
 entry-after d h at es q (Some k) f i e = let a = item-on d q k i in let b = h.each k.1 f e in omega arith
 
-array-after : (d : ℕ) → After d → (p : Part) (n : ℕ) (rest : List ℕ) (f : CborFault) → fault_in (array_cut (glance_at d) p.at (run (item_first d) n (body_of p rest))) ≡ Some f → p.at ≤ f.at
+array-after : (d : ℕ) → After d → (p : Part) (n : ℕ) (rest : List ℕ) (f : CborFault) → fault_in (array_cut (glance_at d) p.at n (run (item_first d) n (body_of p rest))) ≡ Some f → p.at ≤ f.at
 array-after d h p n rest f e =
     let a = body-after p rest in
     let b = run-on (item_first d) (item-on d) n (body_of p rest) in
@@ -93,7 +93,7 @@ cut-after d h p kind (Ok (heads.Unsigned n, rest)) f e = own-after p kind f e
 cut-after d h p kind (Ok (heads.Negative n, rest)) f e = own-after p kind f e
 cut-after d h p kind (Ok (heads.Bytes n, rest)) f e = own-after p kind f e
 cut-after d h p kind (Ok (heads.Text n, rest)) f e = own-after p kind f e
-cut-after d h p kind (Ok (heads.Array n, rest)) f e = elim (nat_lt n (2 ^ 32)) as (λ b. fault_in (if b then array_cut (glance_at d) p.at (run (item_first d) n (body_of p rest)) else own p kind) ≡ Some f → p.at ≤ f.at) [
+cut-after d h p kind (Ok (heads.Array n, rest)) f e = elim (nat_lt n (2 ^ 32)) as (λ b. fault_in (if b then array_cut (glance_at d) p.at n (run (item_first d) n (body_of p rest)) else own p kind) ≡ Some f → p.at ≤ f.at) [
   | true ↦ λ k. array-after d h p n rest f k
   | false ↦ λ k. own-after p kind f k
 ] e

@@ -224,7 +224,7 @@ own-told p s e = let n : p.at ≡ (p.at + length p.bytes) - s.left = omega arith
 record Tells (d : ℕ) : Type 0 where
   each : (p : Part) (s : Stop) → AreBytes p.bytes → item_at d p.bytes ≡ Err s → fault_in (glance_at d p) ≡ Some (fault_from p s)
 
-array-told : (d : ℕ) → Tells d → (n : ℕ) (p : Part) (rest : List ℕ) (s : Stop) → Leaves p.bytes rest → items_at (item_at d) n rest ≡ Err s → fault_in (array_cut (glance_at d) p.at (run (item_first d) n (body_of p rest))) ≡ Some (fault_from p s)
+array-told : (d : ℕ) → Tells d → (n : ℕ) (p : Part) (rest : List ℕ) (s : Stop) → Leaves p.bytes rest → items_at (item_at d) n rest ≡ Err s → fault_in (array_cut (glance_at d) p.at n (run (item_first d) n (body_of p rest))) ≡ Some (fault_from p s)
 array-told d tells n p rest s l e =
     let r = items-stop d n (body_of p rest) s l.are e in
     rw r.run_is (tells.each r.next s r.stops.are r.stops.fault ∙ same-fault r.next p s (r.ends ∙ ends-with p rest l.within))
@@ -282,7 +282,7 @@ view-whole d p rest e = let f = first-of (item_at d p.bytes) rest e in ap whole_
 
 not-whole : (g : Glance) (f : CborFault) → fault_in g ≡ Some f → None ≡ whole_in g
 not-whole (whole p) f e = absurd (cc)
-not-whole (in_array at items next) f e = refl
+not-whole (in_array at n items next) f e = refl
 not-whole (in_map at pairs key) f e = refl
 not-whole (in_value at pairs key value) f e = refl
 not-whole (in_tag at n inner) f e = refl
@@ -303,7 +303,7 @@ place-cut d one p kind (Ok (heads.Unsigned n, rest)) = refl
 place-cut d one p kind (Ok (heads.Negative n, rest)) = refl
 place-cut d one p kind (Ok (heads.Bytes n, rest)) = refl
 place-cut d one p kind (Ok (heads.Text n, rest)) = refl
-place-cut d one p kind (Ok (heads.Array n, rest)) = elim (nat_lt n (2 ^ 32)) as (λ b. place_in (if b then array_cut one p.at (run (item_first d) n (body_of p rest)) else own p kind) ≡ p.at) [ true ↦ refl | false ↦ refl ]
+place-cut d one p kind (Ok (heads.Array n, rest)) = elim (nat_lt n (2 ^ 32)) as (λ b. place_in (if b then array_cut one p.at n (run (item_first d) n (body_of p rest)) else own p kind) ≡ p.at) [ true ↦ refl | false ↦ refl ]
 place-cut d one p kind (Ok (heads.Map n, rest)) = let r = run (pair_first d) n (body_of p rest) in elim (nat_lt n (2 ^ 32)) as (λ b. place_in (if b then map_cut d one p.at r else own p kind) ≡ p.at) [ true ↦ place-entry one p.at r.0 r.1 (item_first d r.1) | false ↦ refl ]
 place-cut d one p kind (Ok (heads.Tag n, rest)) = refl
 place-cut d one p kind (Ok (heads.Simple n, rest)) = refl

@@ -13,5 +13,7 @@ pub mod Glancing
 pub mod GlancePlaces
 pub mod GlanceParts
 pub mod GlanceOpening
+pub mod GlanceCounts
 pub mod FaultKinds
 pub mod GlanceLaws
+pub mod ReadParts

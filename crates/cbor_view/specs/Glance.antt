@@ -12,8 +12,9 @@ use Rattle.cbor_view.specs.Parts.{Part, body_of, items_in, pairs_in, tag_in}
 pub data Glance : Type 0 where
   -- the item is spelled
   whole : Part → Glance
-  -- an array by the place of its head: the items in front that are whole, and the next, which isn't
-  in_array : ℕ → List Part → Glance → Glance
+  -- an array by the place of its head and the count there: the items in front that are whole, and the next,
+  -- which isn't
+  in_array : ℕ → ℕ → List Part → Glance → Glance
   -- a map: the entries in front that are whole, and the next key, which isn't
   in_map : ℕ → List (Part × Part) → Glance → Glance
   -- a map: the entries in front, the next key, which is whole, and its value, which isn't
@@ -52,8 +53,8 @@ run first zero p = ([], p)
 run first (suc n) p = onward p (first p) (run first n)
 
 -- An item that isn't whole, with the kind of its first fault: `one` looks at what is nested in it.
-abbrev pub array_cut : (Part → Glance) → ℕ → List Part × Part → Glance
-array_cut one at r = in_array at r.0 (one r.1)
+abbrev pub array_cut : (Part → Glance) → ℕ → ℕ → List Part × Part → Glance
+array_cut one at n r = in_array at n r.0 (one r.1)
 
 abbrev pub entry_cut : (Part → Glance) → ℕ → List (Part × Part) → Part → Option (Part × Part) → Glance
 entry_cut one at pairs p None = in_map at pairs (one p)
@@ -66,7 +67,7 @@ abbrev pub own : Part → CborKind → Glance
 own p kind = broken (record { kind = kind; at = p.at })
 
 abbrev pub cut : ℕ → (Part → Glance) → Part → CborKind → Result (Head × List ℕ) CborKind → Glance
-cut d one p kind (Ok (heads.Array n, rest)) = if nat_lt n (2 ^ 32) then array_cut one p.at (run (item_first d) n (body_of p rest)) else own p kind
+cut d one p kind (Ok (heads.Array n, rest)) = if nat_lt n (2 ^ 32) then array_cut one p.at n (run (item_first d) n (body_of p rest)) else own p kind
 cut d one p kind (Ok (heads.Map n, rest)) = if nat_lt n (2 ^ 32) then map_cut d one p.at (run (pair_first d) n (body_of p rest)) else own p kind
 cut d one p kind (Ok (heads.Tag n, rest)) = in_tag p.at n (one (body_of p rest))
 cut d one p kind _ = own p kind
@@ -87,7 +88,7 @@ glance bytes = glance_at 32 (record { at = 0; bytes = bytes })
 -- What a glance tells: the first fault, none where the item is whole,
 abbrev pub fault_in : Glance → Option CborFault
 fault_in (whole p) = None
-fault_in (in_array at items next) = fault_in next
+fault_in (in_array at n items next) = fault_in next
 fault_in (in_map at pairs key) = fault_in key
 fault_in (in_value at pairs key value) = fault_in value
 fault_in (in_tag at n inner) = fault_in inner
@@ -96,7 +97,7 @@ fault_in (broken fault) = Some fault
 -- the place of the item's head,
 abbrev pub place_in : Glance → ℕ
 place_in (whole p) = p.at
-place_in (in_array at items next) = at
+place_in (in_array at n items next) = at
 place_in (in_map at pairs key) = at
 place_in (in_value at pairs key value) = at
 place_in (in_tag at n inner) = at
@@ -106,6 +107,12 @@ place_in (broken fault) = fault.at
 abbrev pub whole_in : Glance → Option Part
 whole_in (whole p) = Some p
 whole_in _ = None
+
+-- the count of an array, which its head tells where it isn't whole,
+abbrev pub count_glanced : Glance → Option ℕ
+count_glanced (whole p) = option_map (λ (ps : List Part). length ps) (items_in p)
+count_glanced (in_array at n items next) = Some n
+count_glanced _ = None
 
 -- and what it has: the items of an array and the pairs of a map up to the first that isn't whole, that one
 -- too, a pair having no value where its key isn't whole; the number of a tag with what stands under it.
@@ -117,7 +124,7 @@ tagged_whole x = (x.0, whole x.1)
 
 abbrev pub items_glanced : Glance → Option (List Glance)
 items_glanced (whole p) = option_map (map whole) (items_in p)
-items_glanced (in_array at items next) = Some (map whole items ++ (next ∷ []))
+items_glanced (in_array at n items next) = Some (map whole items ++ (next ∷ []))
 items_glanced _ = None
 
 abbrev pub pairs_glanced : Glance → Option (List (Glance × Option Glance))

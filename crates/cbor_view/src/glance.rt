@@ -3,7 +3,7 @@
 ghost use Rattle.std.specs.Prelude.{◌≡◌, ◌+◌, ◌<◌, ◌≤◌, ◌^◌, length, option_map, is_some, is_none, IfSome};
 ghost use Rattle.cbor_view.specs.Spelling.{AreBytes};
 ghost use Rattle.cbor_view.specs.Begun.{array_count, map_count, tag_number};
-ghost use Rattle.cbor_view.specs.Glance.{glance, fault_in, place_in, whole_in, items_glanced, pairs_glanced, tag_glanced};
+ghost use Rattle.cbor_view.specs.Glance.{glance, fault_in, place_in, whole_in, count_glanced, items_glanced, pairs_glanced, tag_glanced};
 
 use crate::cbor_fault::CborFault;
 use crate::glance_items::GlanceItems;
@@ -75,6 +75,17 @@ impl<'a> Glance<'a> {
                 at: (self.at + self.rest.len()).saturating_sub(stop.left),
             }),
         }
+    }
+
+    /// The count of an array (major type 4) by its head, however many of its items are spelled. None
+    /// where it is no array, or its count or depth is past the limits.
+    pub fn count(&self) -> Option<u64>
+        ensures { result ≡ count_glanced (glanced self.now) }
+    {
+        let Some((head, _)) = self.inside() else {
+            return None;
+        };
+        array_count(head)
     }
 
     /// The items of an array (major type 4) up to the first that isn't whole, that one too. None where

@@ -346,6 +346,7 @@ fn glances_at_a_cut_map(rt: HostRuntime) -> Result<(), Fail> {
     assert_eq!(rt; glance.fault(), View::read(CUT_MAP).err());
     assert!(rt; glance.view().is_none());
     assert!(rt; glance.items().is_none());
+    assert!(rt; glance.count().is_none());
     assert!(rt; glance.tag().is_none());
     let mut pairs = glance.pairs().ok_or("a map")?;
     for (key_at, value_at, fault) in [(1, 3, None), (4, 6, None), (8, 10, Some(truncated))] {
@@ -367,6 +368,7 @@ fn glances_at_a_broken_item(rt: HostRuntime) -> Result<(), Fail> {
         at: 6,
     };
     assert_eq!(rt; (glance.at(), glance.fault()), (0, Some(reserved)));
+    assert_eq!(rt; glance.count(), Some(3));
     assert!(rt; glance.pairs().is_none());
     let mut items = glance.items().ok_or("an array")?;
     let first = items.next().ok_or("an item")?;
@@ -405,6 +407,7 @@ fn glances_at_a_whole_item(rt: HostRuntime) -> Result<(), Fail> {
     assert_eq!(rt; key.view().ok_or("a key")?.uint(), Some(1));
     let value = value.ok_or("a value")?;
     assert_eq!(rt; value.view().ok_or("a value")?.span(), (2, 5));
+    assert_eq!(rt; (key.count(), value.count()), (None, Some(2)));
     let mut items = value.items().ok_or("an array")?;
     for at in [3, 4] {
         assert_eq!(rt; items.next().ok_or("an item")?.at(), at);
