@@ -7,10 +7,10 @@ ghost use Rattle.cbor_view.specs.View.{part};
 ghost use Rattle.mdoc_outside.specs.OptionSteps.{each};
 ghost use Rattle.doc_store.specs.CopyForm.{key_in, used_in, issuer_auth_in, spaces_in};
 ghost use Rattle.doc_store.specs.Store.{copy};
-ghost use Rattle.doc_store.specs.StoreFault.{Tells};
+ghost use Rattle.doc_store.specs.FormFault.{Tells};
 
-use crate::StoreFault;
 use crate::fields::field;
+use crate::form_fault::FormFault;
 use crate::limits::SIGNATURE_PARTS;
 use crate::namespace::check_namespaces;
 use crate::parts::items_within;
@@ -48,28 +48,28 @@ pub(crate) fn read_spaces<'a>(stored: &View<'a>) -> Option<Pairs<'a>>
 }
 
 /// Whether all copies of a document are in their form.
-pub(crate) fn check_copies(alloc: Global, copies: Items<'_>) -> Result<(), StoreFault>
+pub(crate) fn check_copies(alloc: Global, copies: Items<'_>) -> Result<(), FormFault>
     ensures { Tells result (is_some (each copy (left copies.entry))) }
 {
     for stored in copies {
         match check_copy(alloc, &stored) {
             Ok(()) => {}
-            Err(StoreFault::Unread) => return Err(StoreFault::Unread),
-            Err(StoreFault::Memory) => return Err(StoreFault::Memory),
+            Err(FormFault::Outside) => return Err(FormFault::Outside),
+            Err(FormFault::Memory) => return Err(FormFault::Memory),
         }
     }
     Ok(())
 }
 
-fn check_copy(alloc: Global, stored: &View<'_>) -> Result<(), StoreFault>
+fn check_copy(alloc: Global, stored: &View<'_>) -> Result<(), FormFault>
     ensures { Tells result (is_some (copy (part stored.now))) }
 {
     if !has_signed_key(stored) {
-        return Err(StoreFault::Unread);
+        return Err(FormFault::Outside);
     }
     match read_spaces(stored) {
         Some(spaces) => check_namespaces(alloc, spaces),
-        None => Err(StoreFault::Unread),
+        None => Err(FormFault::Outside),
     }
 }
 

@@ -6,11 +6,11 @@ ghost use Rattle.cbor_view.specs.View.{part};
 ghost use Rattle.mdoc_outside.specs.OptionSteps.{each};
 ghost use Rattle.doc_store.specs.DocumentForm.{doc_type_in, uses_mac_in, copies_in, version_in, documents_in};
 ghost use Rattle.doc_store.specs.Store.{is_mac, document};
-ghost use Rattle.doc_store.specs.StoreFault.{Reads};
+ghost use Rattle.doc_store.specs.FormFault.{Reads};
 
-use crate::StoreFault;
 use crate::copy_form::check_copies;
 use crate::fields::field;
+use crate::form_fault::FormFault;
 use crate::limits::{MOST_COPIES, MOST_DOCUMENTS};
 use crate::parts::{items_within, read_name};
 use cbor_view::{Items, View};
@@ -66,7 +66,7 @@ pub(crate) fn read_copies<'a>(stored: &View<'a>) -> Option<Items<'a>>
 pub(crate) fn read_doc_types<'a>(
     alloc: Global,
     documents: Items<'a>,
-) -> Result<Vec<&'a str>, StoreFault>
+) -> Result<Vec<&'a str>, FormFault>
     ensures { Reads (λ v. map (λ t. t.now) v.items) result
         (option_map (map (λ d. d.doc_type)) (each document (left documents.entry))) }
 {
@@ -74,30 +74,30 @@ pub(crate) fn read_doc_types<'a>(
     for stored in documents {
         match check_document(alloc, &stored) {
             Ok(doc_type) => types.push(doc_type)?,
-            Err(StoreFault::Unread) => return Err(StoreFault::Unread),
-            Err(StoreFault::Memory) => return Err(StoreFault::Memory),
+            Err(FormFault::Outside) => return Err(FormFault::Outside),
+            Err(FormFault::Memory) => return Err(FormFault::Memory),
         }
     }
     Ok(types)
 }
 
 /// The type of a document that is in its form.
-fn check_document<'a>(alloc: Global, stored: &View<'a>) -> Result<&'a str, StoreFault>
+fn check_document<'a>(alloc: Global, stored: &View<'a>) -> Result<&'a str, FormFault>
     ensures { Reads (λ t. t.now) result
         (option_map (λ d. d.doc_type) (document (part stored.now))) }
 {
     let Some(doc_type) = read_doc_type(stored) else {
-        return Err(StoreFault::Unread);
+        return Err(FormFault::Outside);
     };
     if read_uses_mac(stored).is_none() {
-        return Err(StoreFault::Unread);
+        return Err(FormFault::Outside);
     }
     let Some(copies) = read_copies(stored) else {
-        return Err(StoreFault::Unread);
+        return Err(FormFault::Outside);
     };
     match check_copies(alloc, copies) {
         Ok(()) => Ok(doc_type),
-        Err(StoreFault::Unread) => Err(StoreFault::Unread),
-        Err(StoreFault::Memory) => Err(StoreFault::Memory),
+        Err(FormFault::Outside) => Err(FormFault::Outside),
+        Err(FormFault::Memory) => Err(FormFault::Memory),
     }
 }

@@ -1,7 +1,11 @@
 // What holds of the definitions alone.
-ghost use Rattle.std.specs.Prelude.{◌≡◌, Some, []};
+ghost use Rattle.std.specs.Prelude.{◌≡◌, ℕ, List, Some, [], is_none, is_some};
+ghost use Rattle.cbor_view.specs.Spelling.{AreBytes};
 ghost use Rattle.doc_store.specs.Agreement.{SamePlaces, SamePresence};
+ghost use Rattle.doc_store.specs.Faults.{faults, store_fault};
+ghost use Rattle.doc_store.specs.FirstOf.{IsFirst};
 ghost use Rattle.doc_store.specs.Store.{store};
+ghost use Rattle.doc_store.specs.declared.first_fault.Fault.{Fault};
 ghost use Rattle.doc_store.specs.declared.laws.TheConstants.{EMPTY_STORE};
 
 /// The store with no document, in its shortest spelling.
@@ -24,4 +28,16 @@ pub fn same_places()
 /// The law that stores which agree hold an item at the same places, whatever it says.
 pub fn same_presence()
     ensures { SamePresence }
+{}
+
+/// The law that nothing is wrong with a file exactly where it spells a store.
+#[tactic(auto, using(crate::proofs::FaultLaw::one_verdict))]
+pub fn one_verdict()
+    ensures { (bytes : List ℕ) → AreBytes bytes → is_none (store_fault bytes) ≡ is_some (store bytes) }
+{}
+
+/// The law that the first fault of a file is one of its faults, and that none of them stands before it:
+/// at a place in front of it, or at its place with a check that comes sooner.
+pub fn first_of_all()
+    ensures { (bytes : List ℕ) (f : Fault) → store_fault bytes ≡ Some f → IsFirst f (faults bytes) }
 {}

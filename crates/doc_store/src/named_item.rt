@@ -5,9 +5,9 @@ ghost use Rattle.cbor_view.specs.Items.{left};
 ghost use Rattle.cbor_view.specs.View.{part};
 ghost use Rattle.mdoc_outside.specs.OptionSteps.{each};
 ghost use Rattle.doc_store.specs.Store.{named_item};
-ghost use Rattle.doc_store.specs.StoreFault.{Reads};
+ghost use Rattle.doc_store.specs.FormFault.{Reads};
 
-use crate::StoreFault;
+use crate::form_fault::FormFault;
 use crate::item::Item;
 use crate::limits::{MOST_NAME_BYTES, MOST_VALUE_BYTES};
 use cbor_view::{Items, View};
@@ -29,7 +29,7 @@ pub(crate) fn read_item_name<'a>(stored: &View<'a>) -> Option<&'a str>
 pub(crate) fn read_item_names<'a>(
     alloc: Global,
     items: Items<'a>,
-) -> Result<Vec<&'a str>, StoreFault>
+) -> Result<Vec<&'a str>, FormFault>
     ensures { Reads (λ v. map (λ t. t.now) v.items) result
         (option_map (map (λ n. n.0)) (each named_item (left items.entry))) }
 {
@@ -37,7 +37,7 @@ pub(crate) fn read_item_names<'a>(
     for item in items {
         match read_item_name(&item) {
             Some(name) => names.push(name)?,
-            None => return Err(StoreFault::Unread),
+            None => return Err(FormFault::Outside),
         }
     }
     Ok(names)

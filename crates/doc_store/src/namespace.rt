@@ -5,22 +5,22 @@ ghost use Rattle.cbor_view.specs.Pairs.{pairs_left};
 ghost use Rattle.cbor_view.specs.View.{part};
 ghost use Rattle.doc_store.specs.Namespace.{counted};
 ghost use Rattle.doc_store.specs.Store.{items_of};
-ghost use Rattle.doc_store.specs.StoreFault.{Reads, Tells};
+ghost use Rattle.doc_store.specs.FormFault.{Reads, Tells};
 
-use crate::StoreFault;
-use crate::fields::are_distinct;
+use crate::form_fault::FormFault;
 use crate::limits::{MOST_ITEMS, MOST_NAMESPACES};
 use crate::named_item::read_item_names;
+use crate::names::are_distinct;
 use crate::parts::{is_pair_count_within, items_within, read_name};
 use cbor_view::{Pairs, View};
 use std::alloc::Global;
 
 /// Whether the namespaces of a copy are in their form.
-pub(crate) fn check_namespaces(alloc: Global, spaces: Pairs<'_>) -> Result<(), StoreFault>
+pub(crate) fn check_namespaces(alloc: Global, spaces: Pairs<'_>) -> Result<(), FormFault>
     ensures { Tells result (is_some (items_of (pairs_left spaces.entry))) }
 {
     if !is_pair_count_within(spaces, MOST_NAMESPACES) {
-        return Err(StoreFault::Unread);
+        return Err(FormFault::Outside);
     }
     let mut names = Vec::new(alloc);
     let mut room = MOST_ITEMS;
@@ -30,14 +30,14 @@ pub(crate) fn check_namespaces(alloc: Global, spaces: Pairs<'_>) -> Result<(), S
                 names.push(name)?;
                 room -= count;
             }
-            Err(StoreFault::Unread) => return Err(StoreFault::Unread),
-            Err(StoreFault::Memory) => return Err(StoreFault::Memory),
+            Err(FormFault::Outside) => return Err(FormFault::Outside),
+            Err(FormFault::Memory) => return Err(FormFault::Memory),
         }
     }
-    if are_distinct(&names) {
+    if are_distinct(alloc, &names)? {
         Ok(())
     } else {
-        Err(StoreFault::Unread)
+        Err(FormFault::Outside)
     }
 }
 
@@ -48,20 +48,20 @@ fn read_namespace<'a>(
     name: &View<'a>,
     items: &View<'a>,
     most: usize,
-) -> Result<(&'a str, usize), StoreFault>
+) -> Result<(&'a str, usize), FormFault>
     ensures read { Reads (λ s. (s.0.now, s.1)) result
         (counted most (part name.now, part items.now)) }
     ensures within { IfOk result (λ s. s.1 ≤ most) }
 {
     let Some(name) = read_name(name) else {
-        return Err(StoreFault::Unread);
+        return Err(FormFault::Outside);
     };
     let Some(items) = items_within(items, 0, most) else {
-        return Err(StoreFault::Unread);
+        return Err(FormFault::Outside);
     };
     match read_item_names(alloc, items) {
-        Ok(names) if are_distinct(&names) => Ok((name, names.len())),
-        Ok(_) | Err(StoreFault::Unread) => Err(StoreFault::Unread),
-        Err(StoreFault::Memory) => Err(StoreFault::Memory),
+        Ok(names) if are_distinct(alloc, &names)? => Ok((name, names.len())),
+        Ok(_) | Err(FormFault::Outside) => Err(FormFault::Outside),
+        Err(FormFault::Memory) => Err(FormFault::Memory),
     }
 }

@@ -6,15 +6,52 @@ ghost use Rattle.mdoc_outside.specs.OptionSteps.{each};
 ghost use Rattle.doc_store.specs.Document.{document_of};
 ghost use Rattle.doc_store.specs.Held.{IsAt, document_found, document_place};
 ghost use Rattle.doc_store.specs.Store.{document, store};
-ghost use Rattle.doc_store.specs.StoreFault.{Reads};
+ghost use Rattle.doc_store.specs.FormFault.{Tells};
+ghost use Rattle.doc_store.specs.Refusals.{IsFault};
 
 use crate::StoreFault;
 use crate::document::Document;
 use crate::document_form::{read_doc_types, read_documents, read_version};
-use crate::fields::are_distinct;
+use crate::form_fault::FormFault;
+use crate::form_faults::first_fault_of;
 use crate::listing::{count_of, item_at};
+use crate::names::are_distinct;
 use cbor_view::{Items, View};
+use mdoc_outside::Memory;
 use std::alloc::Global;
+
+/// Whether a file spells a store.
+#[tactic(auto, unfolding(crate::specs::Store::store))]
+fn check_form(alloc: Global, bytes: &[u8]) -> Result<(), FormFault>
+    ensures { Tells result (is_some (store bytes.now)) }
+{
+    let Ok(file) = View::read(bytes) else {
+        return Err(FormFault::Outside);
+    };
+    if read_version(&file).is_none() {
+        return Err(FormFault::Outside);
+    }
+    let Some(documents) = read_documents(&file) else {
+        return Err(FormFault::Outside);
+    };
+    match read_doc_types(alloc, documents) {
+        Ok(types) if are_distinct(alloc, &types)? => Ok(()),
+        Ok(_) | Err(FormFault::Outside) => Err(FormFault::Outside),
+        Err(FormFault::Memory) => Err(FormFault::Memory),
+    }
+}
+
+/// The first fault of a file that spells no store.
+fn fault_of(alloc: Global, bytes: &[u8]) -> StoreFault
+    requires { store bytes.now ≡ None }
+    ensures { IsFault result bytes.now }
+{
+    match first_fault_of(alloc, bytes) {
+        Ok(Some(fault)) => StoreFault::Form(fault),
+        Ok(None) => unreachable!(),
+        Err(Memory) => StoreFault::Memory,
+    }
+}
 
 /// A store: the documents of a holder, as their bytes spell them. It keeps the bytes, and looks at
 /// them anew in each call.
@@ -25,26 +62,16 @@ pub struct Store<'a> {
 }
 
 impl<'a> Store<'a> {
-    ghost use Rattle.doc_store.specs.StoreView.{documents_in};
+    ghost use Rattle.doc_store.specs.StoreView.{documents_in, ReadsStore};
 
-    /// The store that a file spells.
-    #[tactic(auto, unfolding(crate::specs::Store::store))]
+    /// The store that a file spells, else the file's first fault in byte order.
     pub fn read(alloc: Global, bytes: &'a [u8]) -> Result<Store<'a>, StoreFault>
-        ensures { Reads documents_in result (store bytes.now) }
+        ensures { ReadsStore result bytes.now }
     {
-        let Ok(file) = View::read(bytes) else {
-            return Err(StoreFault::Unread);
-        };
-        if read_version(&file).is_none() {
-            return Err(StoreFault::Unread);
-        }
-        let Some(documents) = read_documents(&file) else {
-            return Err(StoreFault::Unread);
-        };
-        match read_doc_types(alloc, documents) {
-            Ok(types) if are_distinct(&types) => Ok(Store { bytes }),
-            Ok(_) | Err(StoreFault::Unread) => Err(StoreFault::Unread),
-            Err(StoreFault::Memory) => Err(StoreFault::Memory),
+        match check_form(alloc, bytes) {
+            Ok(()) => Ok(Store { bytes }),
+            Err(FormFault::Outside) => Err(fault_of(alloc, bytes)),
+            Err(FormFault::Memory) => Err(StoreFault::Memory),
         }
     }
 

@@ -1,6 +1,9 @@
 //! Stores by their bytes.
 
-use crate::{EMPTY_STORE, Store, StoreFault, StoredCopy};
+use crate::StoreCheck::{Cbor, Doubled, Field, Item, Limit, Version};
+use crate::{EMPTY_STORE, Fault, ItemFault, Store, StoreCheck, StoreFault, StoredCopy};
+use cbor_view::{CborFault, CborKind};
+use mdoc_outside::{KeyName, LimitName};
 use std::alloc::Global;
 use std::process::Abort;
 use std::test::Fail;
@@ -79,8 +82,12 @@ fn numbered(
     Ok(all)
 }
 
-fn fault_of(alloc: Global, bytes: &[u8]) -> Option<StoreFault> {
-    Store::read(alloc, bytes).err()
+/// The first fault of a file; none where it is read.
+fn fault_of(alloc: Global, bytes: &[u8]) -> Option<(StoreCheck, usize)> {
+    match Store::read(alloc, bytes) {
+        Err(StoreFault::Form(Fault { check, at })) => Some((check, at)),
+        _ => None,
+    }
 }
 
 #[test]
@@ -179,94 +186,286 @@ fn keeps_the_order_of_documents(rt: HostRuntime) -> Result<(), Fail> {
     Ok(())
 }
 
-/// Damages of the store with one item: what stands there, and what is put in its place.
-const DAMAGES: [(&[u8], &[u8]); 44] = [
-    (b"version\x01", b"version\x02"),
-    (b"version\x01", b"version\x61\x31"),
-    (b"\xa2\x67version\x01", b"\xa1"),
+/// Damages of the store with one item: what stands there, what is put in its place, and the first
+/// fault, its place counted by hand and by `tests/store_faults`.
+const DAMAGES: [(&[u8], &[u8], StoreCheck, usize); 44] = [
+    (b"version\x01", b"version\x02", Version, 9),
+    (
+        b"version\x01",
+        b"version\x61\x31",
+        Field(KeyName::Version),
+        9,
+    ),
+    (b"\xa2\x67version\x01", b"\xa1", Field(KeyName::Version), 0),
     (
         b"\xa2\x67version\x01",
         b"\xa3\x67version\x01\x67version\x01",
+        Doubled,
+        10,
     ),
-    (b"documents\x81", b"documents\xa1\x00"),
-    (b"documents", b"documentz"),
-    (b"documents\x81", b"documents\x82\x00"),
-    (b"\xa3\x67docType\x61d", b"\xa2"),
-    (b"docType\x61d", b"docType\x41d"),
+    (
+        b"documents\x81",
+        b"documents\xa1\x00",
+        Field(KeyName::Documents),
+        20,
+    ),
+    (b"documents", b"documentz", Field(KeyName::Documents), 0),
+    (
+        b"documents\x81",
+        b"documents\x82\x00",
+        Field(KeyName::DocType),
+        21,
+    ),
+    (
+        b"\xa3\x67docType\x61d",
+        b"\xa2",
+        Field(KeyName::DocType),
+        21,
+    ),
+    (
+        b"docType\x61d",
+        b"docType\x41d",
+        Field(KeyName::DocType),
+        30,
+    ),
     (
         b"\xa3\x67docType\x61d",
         b"\xa4\x67docType\x61d\x67docType\x61d",
+        Doubled,
+        32,
     ),
-    (b"\x64auth\x00", b"\x64auth\x02"),
-    (b"\x64auth\x00", b"\x64auth\xf4"),
-    (b"copies\x81", b"copies\xa1\x00"),
+    (b"\x64auth\x00", b"\x64auth\x02", Field(KeyName::Auth), 37),
+    (b"\x64auth\x00", b"\x64auth\xf4", Field(KeyName::Auth), 37),
+    (b"copies\x81", b"copies\xa1\x00", Field(KeyName::Copies), 45),
     (
         b"\x63key\x00",
         b"\x63key\x1b\x00\x00\x00\x01\x00\x00\x00\x00",
+        Field(KeyName::Key),
+        51,
     ),
-    (b"\x63key\x00", b"\x63key\x20"),
-    (b"used\xf4", b"used\x00"),
-    (b"used\xf4", b"used\xf6"),
-    (b"\x84\x40\xa0\xf6\x40", b"\x83\x40\xa0\xf6"),
-    (b"\x84\x40\xa0\xf6\x40", b"\x85\x40\xa0\xf6\x40\x40"),
-    (b"\x84\x40\xa0\xf6\x40", b"\xd2\x84\x40\xa0\xf6\x40"),
-    (b"nameSpaces", b"nameSpacez"),
-    (b"nameSpaces\xa1\x61n", b"nameSpaces\x81"),
-    (b"\xa1\x61n\x81", b"\xa1\x00\x81"),
-    (b"\x61n\x81", b"\x61n\xa1\x00"),
-    (b"\xa1\x61n\x81", b"\xa2\x61n\x80\x61n\x81"),
-    (b"\xd8\x18\x58\x37", b"\x58\x37"),
-    (b"\xd8\x18\x58\x37", b"\xd8\x19\x58\x37"),
-    (b"\xd8\x18\x58\x37", b"\xd8\x18\x81\x58\x37"),
-    (b"\xa4\x68digestID", b"\xa5\x68digestID"),
-    (b"\xa4\x68digestID", b"\xa3\x68digestID"),
-    (b"\x68digestID", b"\x68digestIE"),
-    (b"random", b"randon"),
-    (b"elementIdentifier", b"elementIdentifies"),
-    (b"elementValue", b"elementValues"),
-    (b"digestID\x00", b"digestID\x20"),
-    (b"\x41\x01", b"\x61\x01"),
-    (b"elementIdentifier\x61a", b"elementIdentifier\x41a"),
+    (b"\x63key\x00", b"\x63key\x20", Field(KeyName::Key), 51),
+    (b"used\xf4", b"used\x00", Field(KeyName::Used), 57),
+    (b"used\xf4", b"used\xf6", Field(KeyName::Used), 57),
+    (
+        b"\x84\x40\xa0\xf6\x40",
+        b"\x83\x40\xa0\xf6",
+        Field(KeyName::IssuerAuth),
+        69,
+    ),
+    (
+        b"\x84\x40\xa0\xf6\x40",
+        b"\x85\x40\xa0\xf6\x40\x40",
+        Field(KeyName::IssuerAuth),
+        69,
+    ),
+    (
+        b"\x84\x40\xa0\xf6\x40",
+        b"\xd2\x84\x40\xa0\xf6\x40",
+        Field(KeyName::IssuerAuth),
+        69,
+    ),
+    (b"nameSpaces", b"nameSpacez", Field(KeyName::NameSpaces), 46),
+    (
+        b"nameSpaces\xa1\x61n",
+        b"nameSpaces\x81",
+        Field(KeyName::NameSpaces),
+        85,
+    ),
+    (
+        b"\xa1\x61n\x81",
+        b"\xa1\x00\x81",
+        Field(KeyName::NameSpaces),
+        86,
+    ),
+    (
+        b"\x61n\x81",
+        b"\x61n\xa1\x00",
+        Field(KeyName::NameSpaces),
+        88,
+    ),
+    (b"\xa1\x61n\x81", b"\xa2\x61n\x80\x61n\x81", Doubled, 89),
+    (
+        b"\xd8\x18\x58\x37",
+        b"\x58\x37",
+        Item(ItemFault::NotTagged),
+        89,
+    ),
+    (
+        b"\xd8\x18\x58\x37",
+        b"\xd8\x19\x58\x37",
+        Item(ItemFault::NotTagged),
+        89,
+    ),
+    (
+        b"\xd8\x18\x58\x37",
+        b"\xd8\x18\x81\x58\x37",
+        Item(ItemFault::NotTagged),
+        89,
+    ),
+    (
+        b"\xa4\x68digestID",
+        b"\xa5\x68digestID",
+        Item(ItemFault::Cbor(CborFault {
+            kind: CborKind::Truncated,
+            at: 55,
+        })),
+        89,
+    ),
+    (
+        b"\xa4\x68digestID",
+        b"\xa3\x68digestID",
+        Item(ItemFault::Cbor(CborFault {
+            kind: CborKind::Trailing,
+            at: 40,
+        })),
+        89,
+    ),
+    (
+        b"\x68digestID",
+        b"\x68digestIE",
+        Item(ItemFault::Field(KeyName::DigestId)),
+        89,
+    ),
+    (
+        b"random",
+        b"randon",
+        Item(ItemFault::Field(KeyName::Random)),
+        89,
+    ),
+    (
+        b"elementIdentifier",
+        b"elementIdentifies",
+        Item(ItemFault::Field(KeyName::ElementIdentifier)),
+        89,
+    ),
+    (
+        b"elementValue",
+        b"elementValues",
+        Item(ItemFault::Cbor(CborFault {
+            kind: CborKind::Truncated,
+            at: 53,
+        })),
+        89,
+    ),
+    (
+        b"digestID\x00",
+        b"digestID\x20",
+        Item(ItemFault::Field(KeyName::DigestId)),
+        89,
+    ),
+    (
+        b"\x41\x01",
+        b"\x61\x01",
+        Item(ItemFault::Field(KeyName::Random)),
+        89,
+    ),
+    (
+        b"elementIdentifier\x61a",
+        b"elementIdentifier\x41a",
+        Item(ItemFault::Field(KeyName::ElementIdentifier)),
+        89,
+    ),
     (
         b"\x58\x37\xa4\x68digestID\x00",
         b"\x58\x41\xa5\x68digestID\x00\x68digestID\x00",
+        Item(ItemFault::Doubled(KeyName::DigestId)),
+        89,
     ),
-    (b"elementValue\x61x", b"elementValue\x61"),
-    (b"elementValue\x61x", b"elementValue\x61x\x00"),
-    (b"\xa2\x67version\x01", b"\xd8\x18\xa2\x67version\x01"),
-    (b"\xa2\x67version\x01", b"\x82\x67version\x01"),
-    (b"\x81\xa3\x67docType\x61d", b"\x81\x83\x67docType\x61d"),
-    (b"copies\x81\xa4", b"copies\x81\x84"),
+    (
+        b"elementValue\x61x",
+        b"elementValue\x61",
+        Cbor(CborKind::Truncated),
+        91,
+    ),
+    (
+        b"elementValue\x61x",
+        b"elementValue\x61x\x00",
+        Cbor(CborKind::Trailing),
+        148,
+    ),
+    (
+        b"\xa2\x67version\x01",
+        b"\xd8\x18\xa2\x67version\x01",
+        Field(KeyName::Version),
+        0,
+    ),
+    (
+        b"\xa2\x67version\x01",
+        b"\x82\x67version\x01",
+        Field(KeyName::Version),
+        0,
+    ),
+    (
+        b"\x81\xa3\x67docType\x61d",
+        b"\x81\x83\x67docType\x61d",
+        Field(KeyName::DocType),
+        21,
+    ),
+    (
+        b"copies\x81\xa4",
+        b"copies\x81\x84",
+        Field(KeyName::Key),
+        46,
+    ),
 ];
 
 #[test]
 fn refuses_damaged_stores(rt: HostRuntime) -> Result<(), Fail> {
     let alloc = rt.alloc();
-    for (old, new) in DAMAGES {
+    for (old, new, check, at) in DAMAGES {
         let bytes = replaced(alloc, ONE_ITEM, old, new)?;
-        assert_eq!(rt;
-            fault_of(alloc, &bytes),
-            Some(StoreFault::Unread),
-            "{new:?} for {old:?}"
-        );
+        let fault = fault_of(alloc, &bytes);
+        assert_eq!(rt; fault, Some((check, at)), "{new:?} for {old:?}");
     }
-    assert_eq!(rt; fault_of(alloc, b""), Some(StoreFault::Unread));
+    let truncated = Cbor(CborKind::Truncated);
+    assert_eq!(rt; fault_of(alloc, b""), Some((truncated, 0)));
     // two items of one name, two documents of one type
     let doubled = joined(alloc, &[b"\x61n\x82", ITEM])?;
     let bytes = replaced(alloc, ONE_ITEM, b"\x61n\x81", &doubled)?;
-    assert_eq!(rt; fault_of(alloc, &bytes), Some(StoreFault::Unread));
+    assert_eq!(rt; fault_of(alloc, &bytes), Some((Doubled, 148)));
     let document = b"\xa3\x67docType\x61d\x64auth\x00\x66copies\x81";
-    let bytes = joined(
-        alloc,
-        &[
-            b"\xa2\x67version\x01\x69documents\x82",
-            document,
-            COPY,
-            document,
-            COPY,
-        ],
-    )?;
-    assert_eq!(rt; fault_of(alloc, &bytes), Some(StoreFault::Unread));
+    let front = b"\xa2\x67version\x01\x69documents\x82";
+    let bytes = joined(alloc, &[front, document, COPY, document, COPY])?;
+    assert_eq!(rt; fault_of(alloc, &bytes), Some((Doubled, 95)));
+    Ok(())
+}
+
+/// Two damages of the store with one item: the fault that is told is the first in byte order.
+#[test]
+fn tells_the_first_of_two(rt: HostRuntime) -> Result<(), Fail> {
+    let alloc = rt.alloc();
+    let truncated = Cbor(CborKind::Truncated);
+    let cases: [(&[u8], &[u8], usize, StoreCheck, usize); 6] = [
+        // a version of 2 before bytes that end, and a key number of another kind behind them
+        (b"version\x01", b"version\x02", 1, Version, 9),
+        (b"\x63key\x00", b"\x63key\x20", 1, Field(KeyName::Key), 51),
+        // in a map that ends too early, no field is missing
+        (
+            b"\xa4\x63key\x00",
+            b"\xa3",
+            1,
+            Cbor(CborKind::Truncated),
+            86,
+        ),
+        (b"\xa4\x63key\x00", b"\xa3", 0, Field(KeyName::Key), 46),
+        // a signature of five parts, which break
+        (
+            b"\x84\x40\xa0\xf6\x40",
+            b"\x85\x40\xa0",
+            74,
+            Field(KeyName::IssuerAuth),
+            69,
+        ),
+        (b"\x84\x40\xa0\xf6\x40", b"\x84\x40\xa0", 74, truncated, 72),
+    ];
+    for (old, new, cut, check, at) in cases {
+        let bytes = replaced(alloc, ONE_ITEM, old, new)?;
+        let front = bytes
+            .get(..bytes.len().saturating_sub(cut))
+            .ok_or("a front")?;
+        let fault = fault_of(alloc, front);
+        assert_eq!(rt; fault, Some((check, at)), "{new:?} for {old:?}");
+    }
     Ok(())
 }
 
@@ -275,24 +474,32 @@ fn refuses_damaged_stores(rt: HostRuntime) -> Result<(), Fail> {
 fn keeps_the_limits(rt: HostRuntime) -> Result<(), Fail> {
     let alloc = rt.alloc();
     // documents, 16 and 17
-    for (head, count) in [(b"\x90", 16), (b"\x91", 17)] {
+    let passed = Some((Limit(LimitName::Documents, 17), 1_093));
+    for (head, count, fault) in [(b"\x90", 16, None), (b"\x91", 17, passed)] {
         let front = joined(alloc, &[b"\xa2\x67version\x01\x69documents", head])?;
         let bytes = numbered(alloc, &front, DOCUMENT_HEAD, DOCUMENT_END, count)?;
-        assert_eq!(rt; fault_of(alloc, &bytes).is_none(), count == 16);
+        assert_eq!(rt; fault_of(alloc, &bytes), fault, "{count} documents");
     }
     // copies, 64, 65 and none
-    for (head, count) in [(b"\x98\x40", 64), (b"\x98\x41", 65), (b"\x98\x00", 0)] {
+    let passed = Some((Limit(LimitName::Copies, 65), 2_607));
+    let none = Some((Field(KeyName::Copies), 45));
+    for (head, count, fault) in [
+        (b"\x98\x40", 64, None),
+        (b"\x98\x41", 65, passed),
+        (b"\x98\x00", 0, none),
+    ] {
         let mut bytes = joined(alloc, &[DOCUMENT, head])?;
         for _ in 0..count {
             bytes.extend_from_slice(COPY)?;
         }
-        assert_eq!(rt; fault_of(alloc, &bytes).is_none(), count == 64);
+        assert_eq!(rt; fault_of(alloc, &bytes), fault, "{count} copies");
     }
     // namespaces, 16 and 17
-    for (head, count) in [(b"\xb0", 16), (b"\xb1", 17)] {
+    let passed = Some((Limit(LimitName::Namespaces, 17), 166));
+    for (head, count, fault) in [(b"\xb0", 16, None), (b"\xb1", 17, passed)] {
         let spaces = numbered(alloc, head, b"\x63", b"\x80", count)?;
         let bytes = joined(alloc, &[DOCUMENT, b"\x81", COPY_HEAD, &spaces])?;
-        assert_eq!(rt; fault_of(alloc, &bytes).is_none(), count == 16);
+        assert_eq!(rt; fault_of(alloc, &bytes), fault, "{count} namespaces");
     }
     Ok(())
 }
@@ -303,11 +510,11 @@ fn keeps_the_limit_of_items(rt: HostRuntime) -> Result<(), Fail> {
     let alloc = rt.alloc();
     let before = b"\xd8\x18\x58\x39\xa4\x68digestID\x00\x66random\x41\x01\x71elementIdentifier\x63";
     let after = b"\x6celementValue\x61x";
-    for (head, count, is_read) in [
-        (b"\xa1\x61m\x99\x02\x00", 512, true),
-        (b"\xa1\x61m\x99\x02\x01", 513, false),
-        (b"\xa2\x61m\x99\x01\xff", 511, true),
-        (b"\xa2\x61m\x99\x02\x00", 512, false),
+    for (head, count, passed) in [
+        (b"\xa1\x61m\x99\x02\x00", 512, None),
+        (b"\xa1\x61m\x99\x02\x01", 513, Some(31_323)),
+        (b"\xa2\x61m\x99\x01\xff", 511, None),
+        (b"\xa2\x61m\x99\x02\x00", 512, Some(31_326)),
     ] {
         let mut spaces = numbered(alloc, head, before, after, count)?;
         if head[0] == 0xa2 {
@@ -315,7 +522,11 @@ fn keeps_the_limit_of_items(rt: HostRuntime) -> Result<(), Fail> {
             spaces.extend_from_slice(ITEM)?;
         }
         let bytes = joined(alloc, &[DOCUMENT, b"\x81", COPY_HEAD, &spaces])?;
-        assert_eq!(rt; fault_of(alloc, &bytes).is_none(), is_read);
+        let fault = match passed {
+            Some(at) => Some((Limit(LimitName::Items, 513), at)),
+            None => None,
+        };
+        assert_eq!(rt; fault_of(alloc, &bytes), fault, "{count} items");
     }
     Ok(())
 }
@@ -324,43 +535,57 @@ fn keeps_the_limit_of_items(rt: HostRuntime) -> Result<(), Fail> {
 #[test]
 fn keeps_the_limits_of_bytes(rt: HostRuntime) -> Result<(), Fail> {
     let alloc = rt.alloc();
-    let cases: [(&[u8], &[u8], &[u8], usize, bool); 8] = [
-        (b"\x58\x37", b"docType\x61d", b"docType\x78\x80", 128, true),
-        (b"\x58\x37", b"docType\x61d", b"docType\x78\x81", 129, false),
-        (b"\x58\x37", b"\xa1\x61n", b"\xa1\x78\x80", 128, true),
-        (b"\x58\x37", b"\xa1\x61n", b"\xa1\x78\x81", 129, false),
+    let name = Limit(LimitName::Name, 129);
+    let value = Limit(LimitName::Value, 262_145);
+    let cases: [(&[u8], &[u8], &[u8], usize, Option<(StoreCheck, usize)>); 8] = [
+        (b"\x58\x37", b"docType\x61d", b"docType\x78\x80", 128, None),
+        (
+            b"\x58\x37",
+            b"docType\x61d",
+            b"docType\x78\x81",
+            129,
+            Some((name, 30)),
+        ),
+        (b"\x58\x37", b"\xa1\x61n", b"\xa1\x78\x80", 128, None),
+        (
+            b"\x58\x37",
+            b"\xa1\x61n",
+            b"\xa1\x78\x81",
+            129,
+            Some((name, 86)),
+        ),
         (
             b"\x58\xb7",
             b"Identifier\x61a",
             b"Identifier\x78\x80",
             128,
-            true,
+            None,
         ),
         (
             b"\x58\xb8",
             b"Identifier\x61a",
             b"Identifier\x78\x81",
             129,
-            false,
+            Some((name, 89)),
         ),
         (
             b"\x5a\x00\x04\x00\x35",
             b"Value\x61x",
             b"Value\x7a\x00\x03\xff\xfb",
             262_139,
-            true,
+            None,
         ),
         (
             b"\x5a\x00\x04\x00\x36",
             b"Value\x61x",
             b"Value\x7a\x00\x03\xff\xfc",
             262_140,
-            false,
+            Some((value, 89)),
         ),
     ];
-    for (inside, old, head, count, is_read) in cases {
+    for (inside, old, head, count, fault) in cases {
         let bytes = lengthened(alloc, inside, old, head, count)?;
-        assert_eq!(rt; fault_of(alloc, &bytes).is_none(), is_read, "at {head:?}");
+        assert_eq!(rt; fault_of(alloc, &bytes), fault, "at {head:?}");
     }
     Ok(())
 }

@@ -11,20 +11,20 @@ loop-name-preserved c =
     let next = fits-next (map (λ t. t.now) c.loop-name.names.items) c.loop-name.room (part c.in-Some.name, part c.in-Some.items) (pairs_left c.next.new.self) (c.in-Ok.name.now, c.in-Ok.count) c.in-Ok.ensures.read in
     (tt, tt, rw (c.in_ok-push-in-Ok.ensures.items, map-append) (sym next ∙ so_far))
 
-pub returns-in-Err-Unread : goal.returns-in-Err-Unread
-returns-in-Err-Unread c =
+pub returns-in-Err-Outside : goal.returns-in-Err-Outside
+returns-in-Err-Outside c =
     let so_far = rw c.in-Some.ensures.steps at c.loop-name.invariant.2 in
-    let read = rw c.in-Err-Unread.field-0-is at c.in-Err-Unread.ensures.read in
+    let read = rw c.in-Err-Outside.field-0-is at c.in-Err-Outside.ensures.read in
     fits-all (pairs_left c.args.spaces) (sym c.is_pair_count_within.ensures ∙ c.if-not-is_pair_count_within.false) ∙ (sym so_far ∙ fits-none (map (λ t. t.now) c.loop-name.names.items) c.loop-name.room (part c.in-Some.name, part c.in-Some.items) (pairs_left c.next.new.self) read)
 
-pub returns-then-are_distinct : goal.returns-then-are_distinct
-returns-then-are_distinct c =
+pub returns-then-branch : goal.returns-then-branch
+returns-then-branch c =
     let so_far = rw c.in-None.ensures.steps.0 at c.loop-name.invariant.2 in
-    let are = rw c.deref.ensures.value at c.are_distinct.ensures in
-    fits-all (pairs_left c.args.spaces) (sym c.is_pair_count_within.ensures ∙ c.if-not-is_pair_count_within.false) ∙ (sym so_far ∙ (fits-end (map (λ t. t.now) c.loop-name.names.items) c.loop-name.room ∙ (sym are ∙ c.if-are_distinct.true)))
+    let are = rw c.deref.ensures.value at c.in_ok-are_distinct.ensures in
+    fits-all (pairs_left c.args.spaces) (sym c.is_pair_count_within.ensures ∙ c.if-not-is_pair_count_within.false) ∙ (sym so_far ∙ (fits-end (map (λ t. t.now) c.loop-name.names.items) c.loop-name.room ∙ (sym are ∙ c.if-branch.true)))
 
 pub returns : goal.returns
 returns c =
     let so_far = rw c.in-None.ensures.steps.0 at c.loop-name.invariant.2 in
-    let are = rw c.deref.ensures.value at c.are_distinct.ensures in
-    fits-all (pairs_left c.args.spaces) (sym c.is_pair_count_within.ensures ∙ c.if-not-is_pair_count_within.false) ∙ (sym so_far ∙ (fits-end (map (λ t. t.now) c.loop-name.names.items) c.loop-name.room ∙ (sym are ∙ c.if-are_distinct.false)))
+    let are = rw c.deref.ensures.value at c.in_ok-are_distinct.ensures in
+    fits-all (pairs_left c.args.spaces) (sym c.is_pair_count_within.ensures ∙ c.if-not-is_pair_count_within.false) ∙ (sym so_far ∙ (fits-end (map (λ t. t.now) c.loop-name.names.items) c.loop-name.room ∙ (sym are ∙ c.if-branch.false)))

@@ -1,0 +1,126 @@
+-- The names that were seen, as a set and as a list.
+use denote.Ref.{Bor}
+use Rattle.std.proofs.Common.{◌≡◌, ℕ, Bool, true, false, cond, not, List, [], ◌∷◌, map, Ordering, Some, ap, sym, refl, ◌∙◌}
+use Rattle.std.specs.Prelude.{◌||◌, ◌&&◌, filter_map}
+use Rattle.std.specs.BTreeMap.{is_at}
+use Rattle.std.specs.BTreeSet.{BTreeSet, contains, Updates}
+use Rattle.std.specs.Cmp.Lexicographic.{slice_cmp}
+use Rattle.std.specs.List.{list_any}
+use Rattle.std.specs.Ordering.{nat_cmp}
+use Rattle.std.specs.Str.{bytes_eq}
+use Rattle.std.proofs.lemmas.Cmp.{nat_list_eq_equiv}
+use Rattle.std.proofs.lemmas.Map.Text.{is_eq-slice_cmp}
+use Rattle.cbor_view.specs.Glance.{Glance}
+use Rattle.mdoc_outside.specs.KeyName.{key_text}
+use Rattle.mdoc_outside.specs.declared.key_name.KeyName.{KeyName}
+use Rattle.doc_store.specs.Fields.{are_distinct}
+use Rattle.doc_store.specs.Faults.{Entries, again, is_text, text_glanced, values_of, with_text}
+
+-- ---- the set
+
+abbrev text_order : Bor (List ℕ) → Bor (List ℕ) → Ordering
+text_order one other = slice_cmp nat_cmp one.now other.now
+
+-- a set of texts finds what is in their list
+found_by : (name : List ℕ) (keys : List (Bor (List ℕ))) →
+    list_any (is_at (λ (key : Bor (List ℕ)). slice_cmp nat_cmp name key.now)) keys ≡ list_any (bytes_eq name) (map (λ key. key.now) keys)
+found_by name [] = refl
+found_by name (key ∷ keys) = rw (is_eq-slice_cmp name key.now, found_by name keys) refl
+
+-- whether it is there, by whether it is new
+pub before_added : (set : BTreeSet (Bor (List ℕ))) (name : Bor (List ℕ)) (added : Bool) → added ≡ not (contains text_order set name) →
+    not added ≡ list_any (bytes_eq name.now) (map (λ key. key.now) set.keys)
+before_added set name added said = twice (contains text_order set name) added said ∙ found_by name.now set.keys where
+  twice : (b a : Bool) → a ≡ not b → not a ≡ b
+  twice true a e = rw e refl
+  twice false a e = rw e refl
+
+either : (b c : Bool) → cond b true c ≡ (b || c)
+either true c = refl
+either false c = refl
+
+-- what is there once it was added
+pub after_added : (old new : BTreeSet (Bor (List ℕ))) (name : Bor (List ℕ)) → Updates text_order old new name true → (other : List ℕ) →
+    list_any (bytes_eq other) (map (λ key. key.now) new.keys) ≡ (bytes_eq other name.now || list_any (bytes_eq other) (map (λ key. key.now) old.keys))
+after_added old new name said other =
+    sym (found_by other new.keys)
+    ∙ (said.0 (record { ref_ptr = (0, 0); now = other })
+    ∙ rw (is_eq-slice_cmp name.now other, found_by other old.keys, nat_list_eq_equiv.symm other name.now) (either (bytes_eq name.now other) (list_any (bytes_eq other) (map (λ key. key.now) old.keys))))
+
+-- ---- what stands again
+
+-- whether two lists have the same names
+abbrev pub AreSame : List (List ℕ) → List (List ℕ) → Type 0
+AreSame seen others = (name : List ℕ) → list_any (bytes_eq name) seen ≡ list_any (bytes_eq name) others
+
+with_one : (x : List ℕ) (seen others : List (List ℕ)) → AreSame seen others → AreSame (x ∷ seen) (x ∷ others)
+with_one x seen others same name = ap (λ b. bytes_eq name x || b) (same name)
+
+-- what was seen counts by its names alone
+pub again_same : (xs : List (List ℕ × Glance)) (seen others : List (List ℕ)) → AreSame seen others → again seen xs ≡ again others xs
+again_same [] seen others same = refl
+again_same (x ∷ xs) seen others same = rw (same x.0, again_same xs (x.0 ∷ seen) (x.0 ∷ others) (with_one x.0 seen others same)) refl
+
+-- a name that is new
+pub again_next : (seen new : List (List ℕ)) (x : List ℕ × Glance) (xs : List (List ℕ × Glance)) → list_any (bytes_eq x.0) seen ≡ false →
+    ((name : List ℕ) → list_any (bytes_eq name) new ≡ (bytes_eq name x.0 || list_any (bytes_eq name) seen)) → again seen (x ∷ xs) ≡ again new xs
+again_next seen new x xs unseen said = rw unseen (again_same xs (x.0 ∷ seen) new (λ name. sym (said name)))
+
+-- a key of a map whose value is a text
+pub text_next : (name : KeyName) (key value : Glance) (entries : Entries) (text : List ℕ) → is_text (key_text name) (text_glanced key) ≡ true → text_glanced value ≡ Some text →
+    filter_map with_text (values_of name ((key, Some value) ∷ entries)) ≡ (text, value) ∷ filter_map with_text (values_of name entries)
+text_next name key value entries text is said = rw (is, said) refl
+
+-- ---- names of which no two are equal
+
+-- whether each of the names is new: none of those that were seen, nor of those in front of it
+abbrev pub are_new : List (List ℕ) → List (List ℕ) → Bool
+are_new seen [] = true
+are_new seen (name ∷ names) = not (list_any (bytes_eq name) seen) && are_new (name ∷ seen) names
+
+new_same : (names seen others : List (List ℕ)) → AreSame seen others → are_new seen names ≡ are_new others names
+new_same [] seen others same = refl
+new_same (name ∷ names) seen others same = rw (same name, new_same names (name ∷ seen) (name ∷ others) (with_one name seen others same)) refl
+
+-- a name that is new
+pub new_next : (seen new : List (List ℕ)) (name : List ℕ) (names : List (List ℕ)) → list_any (bytes_eq name) seen ≡ false →
+    ((other : List ℕ) → list_any (bytes_eq other) new ≡ (bytes_eq other name || list_any (bytes_eq other) seen)) → are_new seen (name ∷ names) ≡ are_new new names
+new_next seen new name names unseen said = rw unseen (new_same names (name ∷ seen) new (λ other. sym (said other)))
+
+-- whether none of the names was seen
+abbrev are_unseen : List (List ℕ) → List (List ℕ) → Bool
+are_unseen seen [] = true
+are_unseen seen (name ∷ names) = not (list_any (bytes_eq name) seen) && are_unseen seen names
+
+regrouped : (e a p q : Bool) → (not (e || a) && (p && not q)) ≡ ((not a && p) && not (e || q))
+regrouped true true p q = refl
+regrouped true false true q = refl
+regrouped true false false q = refl
+regrouped false true p q = refl
+regrouped false false p q = refl
+
+unseen_more : (x : List ℕ) (seen names : List (List ℕ)) → are_unseen (x ∷ seen) names ≡ (are_unseen seen names && not (list_any (bytes_eq x) names))
+unseen_more x seen [] = refl
+unseen_more x seen (name ∷ names) =
+    ap (λ b. not (bytes_eq name x || list_any (bytes_eq name) seen) && b) (unseen_more x seen names)
+    ∙ (regrouped (bytes_eq name x) (list_any (bytes_eq name) seen) (are_unseen seen names) (list_any (bytes_eq x) names)
+    ∙ ap (λ e. (not (list_any (bytes_eq name) seen) && are_unseen seen names) && not (e || list_any (bytes_eq x) names)) (nat_list_eq_equiv.symm name x))
+
+gathered : (a p q d : Bool) → (not a && ((p && not q) && d)) ≡ ((not a && p) && (not q && d))
+gathered true p q d = refl
+gathered false true q d = refl
+gathered false false q d = refl
+
+new_is : (seen names : List (List ℕ)) → are_new seen names ≡ (are_unseen seen names && are_distinct names)
+new_is seen [] = refl
+new_is seen (name ∷ names) =
+    ap (λ b. not (list_any (bytes_eq name) seen) && b) (new_is (name ∷ seen) names ∙ ap (λ b. b && are_distinct names) (unseen_more name seen names))
+    ∙ gathered (list_any (bytes_eq name) seen) (are_unseen seen names) (list_any (bytes_eq name) names) (are_distinct names)
+
+none_seen : (names : List (List ℕ)) → are_unseen [] names ≡ true
+none_seen [] = refl
+none_seen (name ∷ names) = none_seen names
+
+-- where none was seen before, they are new where no two are equal
+pub new_from_none : (names : List (List ℕ)) → are_new [] names ≡ are_distinct names
+new_from_none names = new_is [] names ∙ ap (λ b. b && are_distinct names) (none_seen names)

@@ -1,0 +1,336 @@
+-- What is wrong with a store file: the faults of each map and list of the form, as far as the file is spelled, and
+-- the first of them in byte order.
+use Rattle.std.specs.Prelude.{ℕ, ◌+◌, ◌==◌, ◌^◌, nat_le, nat_lt, List, [], ◌∷◌, ◌++◌, length, map, filter, filter_map, flat_map, drop, slice_get, Bool, true, false, not, ◌&&◌, ◌||◌, Option, Some, None, is_some, option_map, option_and_then, Result, Ok, Err, if◌then◌else◌}
+use Rattle.std.specs.List.{list_any}
+use Rattle.std.specs.Option.{option_or}
+use Rattle.std.specs.Str.{bytes_eq}
+use Rattle.cbor_view.specs.declared.cbor_fault.CborFault.{CborFault}
+use Rattle.cbor_view.specs.declared.doubled.Doubled.{Doubled}
+use Rattle.cbor_view.specs.Tree.{Tree}
+use Rattle.cbor_view.specs.Label.{Words}
+use Rattle.cbor_view.specs.Glance.{Glance, broken, glance, place_in, whole_in, count_glanced, items_glanced, pairs_glanced, tag_glanced}
+use Rattle.cbor_view.specs.Parts.{Part, cbor, tagged, entry_in, uint_in, bytes_in, text_in, boolean_in}
+use Rattle.cbor_view.specs.Reading.{reads}
+use Rattle.mdoc_outside.specs.KeyName.{key_text}
+use Rattle.mdoc_outside.specs.declared.key_name.KeyName.{KeyName}
+use Rattle.mdoc_outside.specs.declared.key_name.KeyName.TheVariants as keys
+use Rattle.mdoc_outside.specs.declared.limit_name.LimitName.{LimitName}
+use Rattle.mdoc_outside.specs.declared.limit_name.LimitName.TheVariants as limits
+use Rattle.doc_store.specs.Fields.{field}
+use Rattle.doc_store.specs.declared.first_fault.Fault.{Fault}
+use Rattle.doc_store.specs.Item.{Item, item}
+use Rattle.doc_store.specs.declared.item_fault.ItemFault.{ItemFault}
+use Rattle.doc_store.specs.declared.item_fault.ItemFault.TheVariants as items
+use Rattle.doc_store.specs.declared.store_check.StoreCheck.{StoreCheck}
+use Rattle.doc_store.specs.declared.store_check.StoreCheck.TheVariants as checks
+
+abbrev pub fault : StoreCheck → Glance → Fault
+fault check g = record { check = check; at = place_in g }
+
+-- ---- kinds
+
+-- an item of another kind is wrong at its head; one whose head, string or count is broken is of no kind
+abbrev pub is_broken : Glance → Bool
+is_broken (broken f) = true
+is_broken g = false
+
+abbrev pub other_kind : StoreCheck → Glance → List Fault
+other_kind check g = if is_broken g then [] else fault check g ∷ []
+
+-- what is wrong with an item that has to be of a kind
+abbrev pub if_kind : {A : Type 0} → List Fault → (A → List Fault) → Option A → List Fault
+if_kind other inside None = other
+if_kind other inside (Some x) = inside x
+
+abbrev pub of_kind : {A : Type 0} → StoreCheck → (Glance → Option A) → (A → List Fault) → Glance → List Fault
+of_kind check reading inside g = if_kind (other_kind check g) inside (reading g)
+
+-- a whole number, text or truth value
+abbrev pub uint_glanced : Glance → Option ℕ
+uint_glanced g = option_and_then uint_in (whole_in g)
+
+abbrev pub text_glanced : Glance → Option (List ℕ)
+text_glanced g = option_and_then text_in (whole_in g)
+
+abbrev pub boolean_glanced : Glance → Option Bool
+boolean_glanced g = option_and_then boolean_in (whole_in g)
+
+-- a fault unless a test passes
+abbrev pub unless : Bool → Fault → List Fault
+unless true f = []
+unless false f = f ∷ []
+
+abbrev pub nothing : {A : Type 0} → A → List Fault
+nothing x = []
+
+-- ---- limits and names
+
+-- the item that passes a limit on a list
+abbrev pub passed_at : LimitName → ℕ → Option Glance → List Fault
+passed_at limit most None = []
+passed_at limit most (Some g) = fault (checks.Limit limit (most + 1)) g ∷ []
+
+abbrev pub passed : LimitName → ℕ → List Glance → List Fault
+passed limit most gs = passed_at limit most (slice_get gs most)
+
+-- a name of more than 128 bytes
+abbrev pub name_limit : Glance → List ℕ → List Fault
+name_limit g name = unless (nat_le (length name) 128) (fault (checks.Limit limits.Name (length name)) g)
+
+-- what stands there a second time: the first text that is equal to one in front of it
+abbrev pub again : List (List ℕ) → List (List ℕ × Glance) → List Fault
+again seen [] = []
+again seen (x ∷ xs) = if list_any (bytes_eq x.0) seen then fault checks.Doubled x.1 ∷ [] else again (x.0 ∷ seen) xs
+
+abbrev pub repeated : List (List ℕ × Glance) → List Fault
+repeated xs = again [] xs
+
+-- a text beside its glance, where it is whole
+abbrev pub with_text : Glance → Option (List ℕ × Glance)
+with_text g = option_map (λ text. (text, g)) (text_glanced g)
+
+-- ---- the maps of the form
+
+-- a key of a map, and what may be wrong with its value
+pub record Key : Type 0 where
+  pub name : KeyName
+  pub value : Glance → List Fault
+
+abbrev pub Entries : Type 0
+Entries = List (Glance × Option Glance)
+
+abbrev pub is_text : List ℕ → Option (List ℕ) → Bool
+is_text words None = false
+is_text words (Some text) = bytes_eq text words
+
+abbrev pub is_key : KeyName → Glance × Option Glance → Bool
+is_key name entry = is_text (key_text name) (text_glanced entry.0)
+
+abbrev pub entries_of : KeyName → Entries → Entries
+entries_of name entries = filter (is_key name) entries
+
+abbrev pub values_of : KeyName → Entries → List Glance
+values_of name entries = filter_map (λ (entry : Glance × Option Glance). entry.1) (entries_of name entries)
+
+-- a key that stands twice is wrong where it stands again; one that is missing, in a map that is whole, at the map
+abbrev pub doubled_at : Entries → List Fault
+doubled_at [] = []
+doubled_at (entry ∷ others) = fault checks.Doubled entry.0 ∷ []
+
+abbrev pub key_again : KeyName → Entries → List Fault
+key_again name entries = doubled_at (drop 1 (entries_of name entries))
+
+abbrev pub has_key : KeyName → Entries → Bool
+has_key name entries = list_any (is_key name) entries
+
+abbrev pub key_missing : Glance → KeyName → Entries → List Fault
+key_missing g name entries = unless (not (is_some (whole_in g)) || has_key name entries) (fault (checks.Field name) g)
+
+abbrev pub key_faults : Glance → Entries → Key → List Fault
+key_faults g entries key = key_missing g key.name entries ++ (key_again key.name entries ++ flat_map key.value (values_of key.name entries))
+
+-- a map of the form, by its keys, of which there is a first
+abbrev pub map_faults : Key → List Key → Glance → List Fault
+map_faults key others g = of_kind (checks.Field key.name) pairs_glanced (λ entries. flat_map (key_faults g entries) (key ∷ others)) g
+
+-- ---- a stored item
+
+-- what is wrong with the bytes of a stored item, by the first check that fails
+abbrev pub is_doubled : Result (Option Part) Doubled → Bool
+is_doubled (Ok found) = false
+is_doubled (Err doubled) = true
+
+abbrev pub doubled_key : Part → KeyName → Option ItemFault
+doubled_key map name = if is_doubled (entry_in (Words (key_text name)) map) then Some (items.Doubled name) else None
+
+abbrev pub wrong_field : {A : Type 0} → Part → KeyName → (Part → Option A) → Option ItemFault
+wrong_field map name reading = if is_some (option_and_then reading (field (key_text name) map)) then None else Some (items.Field name)
+
+abbrev pub any_item : Part → Option Part
+any_item part = Some part
+
+infixl 10 ◌orelse◌
+abbrev pub ◌orelse◌ : Option ItemFault → Option ItemFault → Option ItemFault
+one orelse other = option_or one other
+
+abbrev pub fields_fault : Part → Option ItemFault
+fields_fault map =
+    doubled_key map keys.DigestId orelse doubled_key map keys.Random
+    orelse doubled_key map keys.ElementIdentifier orelse doubled_key map keys.ElementValue
+    orelse wrong_field map keys.DigestId uint_in orelse wrong_field map keys.Random bytes_in
+    orelse wrong_field map keys.ElementIdentifier text_in orelse wrong_field map keys.ElementValue any_item
+
+abbrev pub inside_fault : Result Part CborFault → Option ItemFault
+inside_fault (Err f) = Some (items.Cbor f)
+inside_fault (Ok map) = fields_fault map
+
+abbrev pub tagged_fault : Option (List ℕ) → Option ItemFault
+tagged_fault None = Some items.NotTagged
+tagged_fault (Some inside) = inside_fault (cbor inside)
+
+abbrev pub item_fault : Part → Option ItemFault
+item_fault part = tagged_fault (option_and_then bytes_in (tagged 24 part))
+
+-- a limit that its name or its value passes
+abbrev pub value_limit : Glance → ℕ → List Fault
+value_limit g bytes = unless (nat_le bytes 262144) (fault (checks.Limit limits.Value bytes) g)
+
+abbrev pub item_limits : Glance → Option Item → List Fault
+item_limits g None = []
+item_limits g (Some read) =
+    name_limit g read.name ++ value_limit g (length read.value)
+
+abbrev pub whole_item : Glance → Part → Option ItemFault → List Fault
+whole_item g part None = item_limits g (item part.bytes)
+whole_item g part (Some f) = fault (checks.Item f) g ∷ []
+
+-- where it isn't whole, a string that is broken under the tag is of no other kind
+abbrev pub under_tag : Glance → ℕ × Glance → List Fault
+under_tag g inside = unless (inside.0 == 24 && is_broken inside.1) (fault (checks.Item items.NotTagged) g)
+
+abbrev pub cut_item : Glance → List Fault
+cut_item g = if_kind (other_kind (checks.Item items.NotTagged) g) (under_tag g) (tag_glanced g)
+
+abbrev pub item_faults : Glance → List Fault
+item_faults g = if_kind (cut_item g) (λ part. whole_item g part (item_fault part)) (whole_in g)
+
+-- its name, where it is an item
+abbrev pub item_name : Glance → Option (List ℕ × Glance)
+item_name g = option_map (λ (read : Item). (read.name, g)) (option_and_then (λ (part : Part). item part.bytes) (whole_in g))
+
+-- ---- the namespaces of a copy
+
+abbrev pub listed : Option (List Glance) → List Glance
+listed None = []
+listed (Some gs) = gs
+
+abbrev pub space_items : Glance × Option Glance → List Glance
+space_items entry = listed (option_and_then items_glanced entry.1)
+
+abbrev pub items_faults : List Glance → List Fault
+items_faults gs = flat_map item_faults gs ++ repeated (filter_map item_name gs)
+
+abbrev pub space_value : Option Glance → List Fault
+space_value None = []
+space_value (Some g) = of_kind (checks.Field keys.NameSpaces) items_glanced items_faults g
+
+abbrev pub name_faults : Glance → List Fault
+name_faults g = of_kind (checks.Field keys.NameSpaces) text_glanced (name_limit g) g
+
+abbrev pub space_faults : Glance × Option Glance → List Fault
+space_faults entry = name_faults entry.0 ++ space_value entry.1
+
+abbrev pub keys_in : Entries → List Glance
+keys_in entries = map (λ (entry : Glance × Option Glance). entry.0) entries
+
+abbrev pub entries_faults : Entries → List Fault
+entries_faults entries =
+    flat_map space_faults entries ++ repeated (filter_map with_text (keys_in entries))
+    ++ passed limits.Namespaces 16 (keys_in entries) ++ passed limits.Items 512 (flat_map space_items entries)
+
+abbrev pub spaces_faults : Glance → List Fault
+spaces_faults g = of_kind (checks.Field keys.NameSpaces) pairs_glanced entries_faults g
+
+-- ---- a copy, a document, the store
+
+abbrev pub key_number : Glance → List Fault
+key_number g = of_kind (checks.Field keys.Key) uint_glanced (λ n. unless (nat_lt n (2 ^ 32)) (fault (checks.Field keys.Key) g)) g
+
+abbrev pub used_faults : Glance → List Fault
+used_faults g = of_kind (checks.Field keys.Used) boolean_glanced nothing g
+
+abbrev pub auth_of_issuer : Glance → List Fault
+auth_of_issuer g = of_kind (checks.Field keys.IssuerAuth) count_glanced (λ n. unless (n == 4) (fault (checks.Field keys.IssuerAuth) g)) g
+
+abbrev pub copy_faults : Glance → List Fault
+copy_faults g = map_faults
+    (record { name = keys.Key; value = key_number })
+    (record { name = keys.Used; value = used_faults } ∷ record { name = keys.IssuerAuth; value = auth_of_issuer }
+    ∷ record { name = keys.NameSpaces; value = spaces_faults } ∷ []) g
+
+abbrev pub doc_type_faults : Glance → List Fault
+doc_type_faults g = of_kind (checks.Field keys.DocType) text_glanced (name_limit g) g
+
+abbrev pub auth_faults : Glance → List Fault
+auth_faults g = of_kind (checks.Field keys.Auth) uint_glanced (λ n. unless (nat_le n 1) (fault (checks.Field keys.Auth) g)) g
+
+abbrev pub no_copy : Glance → List Glance → List Fault
+no_copy g [] = fault (checks.Field keys.Copies) g ∷ []
+no_copy g (copy ∷ others) = []
+
+abbrev pub copy_list_faults : Glance → List Glance → List Fault
+copy_list_faults g gs = no_copy g gs ++ flat_map copy_faults gs ++ passed limits.Copies 64 gs
+
+abbrev pub copies_faults : Glance → List Fault
+copies_faults g = of_kind (checks.Field keys.Copies) items_glanced (copy_list_faults g) g
+
+abbrev pub document_faults : Glance → List Fault
+document_faults g = map_faults
+    (record { name = keys.DocType; value = doc_type_faults })
+    (record { name = keys.Auth; value = auth_faults } ∷ record { name = keys.Copies; value = copies_faults } ∷ []) g
+
+abbrev pub entries_or_none : Option Entries → Entries
+entries_or_none None = []
+entries_or_none (Some entries) = entries
+
+abbrev pub doc_types : Glance → List (List ℕ × Glance)
+doc_types g = filter_map with_text (values_of keys.DocType (entries_or_none (pairs_glanced g)))
+
+abbrev pub version_faults : Glance → List Fault
+version_faults g = of_kind (checks.Field keys.Version) uint_glanced (λ n. unless (n == 1) (fault checks.Version g)) g
+
+abbrev pub document_list_faults : List Glance → List Fault
+document_list_faults gs = flat_map document_faults gs ++ repeated (flat_map doc_types gs) ++ passed limits.Documents 16 gs
+
+abbrev pub documents_faults : Glance → List Fault
+documents_faults g = of_kind (checks.Field keys.Documents) items_glanced document_list_faults g
+
+abbrev pub form_faults : Glance → List Fault
+form_faults g = map_faults (record { name = keys.Version; value = version_faults }) (record { name = keys.Documents; value = documents_faults } ∷ []) g
+
+-- the fault of its CBOR, of which there is at most one
+abbrev pub cbor_fault : Result Tree CborFault → List Fault
+cbor_fault (Ok tree) = []
+cbor_fault (Err f) = record { check = checks.Cbor f.kind; at = f.at } ∷ []
+
+abbrev pub faults : List ℕ → List Fault
+faults bytes = cbor_fault (reads bytes) ++ form_faults (glance bytes)
+
+-- ---- the first of them
+
+-- the order of faults at one place
+abbrev pub limit_rank : LimitName → ℕ
+limit_rank limits.Documents = 5
+limit_rank limits.Namespaces = 6
+limit_rank limits.Items = 7
+limit_rank limits.Copies = 8
+limit_rank limits.Value = 9
+limit_rank limit = 10
+
+abbrev pub rank : StoreCheck → ℕ
+rank (checks.Cbor kind) = 0
+rank (checks.Field key) = 1
+rank checks.Version = 2
+rank checks.Doubled = 3
+rank (checks.Item f) = 4
+rank (checks.Limit limit n) = limit_rank limit
+
+abbrev pub is_before : Fault → Fault → Bool
+is_before one other = nat_lt one.at other.at || (one.at == other.at && nat_lt (rank one.check) (rank other.check))
+
+-- the fault at the least place, of those at one place the first by the order of checks, and of equals the first
+abbrev pub earlier : Fault → Option Fault → Option Fault
+earlier f None = Some f
+earlier f (Some other) = if is_before other f then Some other else Some f
+
+abbrev pub sooner : Option Fault → Option Fault → Option Fault
+sooner None other = other
+sooner (Some f) other = earlier f other
+
+abbrev pub first_fault : List Fault → Option Fault
+first_fault [] = None
+first_fault (f ∷ fs) = earlier f (first_fault fs)
+
+-- what is wrong with a file, if something is
+abbrev pub store_fault : List ℕ → Option Fault
+store_fault bytes = first_fault (faults bytes)

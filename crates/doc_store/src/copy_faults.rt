@@ -1,0 +1,83 @@
+//! What is wrong with the copies of a document.
+
+ghost use Rattle.std.specs.Prelude.{◌≡◌};
+ghost use Rattle.cbor_view.specs.Glanced.{glanced};
+ghost use Rattle.cbor_view.specs.GlanceItems.{glances_left};
+ghost use Rattle.mdoc_outside.specs.declared.key_name.KeyName.TheVariants as keys;
+ghost use Rattle.doc_store.specs.Faults.{copies_faults, copy_faults, copy_list_faults, first_fault, no_copy};
+ghost use Rattle.doc_store.specs.Found.{Finds};
+
+use crate::StoreCheck;
+use crate::first_fault::{Fault, sooner};
+use crate::form_key::{FormKey, key_fault};
+use crate::judge::{Judge, of_items};
+use crate::kind_faults::{fault, other_kind};
+use crate::limits::MOST_COPIES;
+use crate::namespace_faults::NameSpaces;
+use crate::passed::items_passed;
+use crate::simple_keys::{DeviceKeyNumber, IssuerAuth, Used};
+use cbor_view::{Glance, GlanceItems};
+use mdoc_outside::{KeyName, LimitName, Memory};
+use std::alloc::Global;
+
+/// A copy.
+struct Copy;
+
+impl Judge for Copy {
+    ghost faults = { λ _. copy_faults };
+
+    #[tactic(auto, using(crate::proofs::FirstFaults::first_joined, crate::proofs::FirstFaults::sooner_none))]
+    fn fault_of(&self, alloc: Global, item: &Glance<'_>) -> Result<Option<Fault>, Memory> {
+        let Some(entries) = item.pairs() else {
+            return Ok(other_kind(StoreCheck::Field(KeyName::Key), item));
+        };
+        let key = key_fault(&DeviceKeyNumber, alloc, item, entries)?;
+        let used = key_fault(&Used, alloc, item, entries)?;
+        let issuer_auth = key_fault(&IssuerAuth, alloc, item, entries)?;
+        let name_spaces = key_fault(&NameSpaces, alloc, item, entries)?;
+        Ok(sooner(key, sooner(used, sooner(issuer_auth, name_spaces))))
+    }
+}
+
+/// A list of no copies.
+fn no_copy(list: &Glance<'_>, copies: GlanceItems<'_>) -> Option<Fault>
+    ensures { result ≡ first_fault (no_copy (glanced list.now) (glances_left copies.entry)) }
+{
+    let mut rest = copies;
+    match rest.next() {
+        Some(_) => None,
+        None => Some(fault(StoreCheck::Field(KeyName::Copies), list)),
+    }
+}
+
+/// What is wrong with the copies of a document.
+#[tactic(auto, using(crate::proofs::FirstFaults::first_joined, crate::proofs::FirstFaults::sooner_none))]
+fn copies_fault(
+    alloc: Global,
+    list: &Glance<'_>,
+    copies: GlanceItems<'_>,
+) -> Result<Option<Fault>, Memory>
+    ensures { Finds result (copy_list_faults (glanced list.now) (glances_left copies.entry)) }
+{
+    let of_each = of_items(&Copy, alloc, copies)?;
+    let past = items_passed(copies, LimitName::Copies, MOST_COPIES);
+    Ok(sooner(sooner(no_copy(list, copies), of_each), past))
+}
+
+/// The copies of a document.
+pub(crate) struct Copies;
+
+impl FormKey for Copies {
+    ghost key = { λ _. record { name = keys.Copies; value = copies_faults } };
+
+    fn name(&self) -> KeyName {
+        KeyName::Copies
+    }
+
+    fn fault_of(&self, alloc: Global, value: &Glance<'_>) -> Result<Option<Fault>, Memory> {
+        match value.items() {
+            Some(copies) => copies_fault(alloc, value, copies),
+            None => Ok(other_kind(StoreCheck::Field(KeyName::Copies), value)),
+        }
+    }
+}

@@ -1,0 +1,51 @@
+//! The names that were seen, and names of which no two are equal.
+
+ghost use Rattle.std.specs.Prelude.{◌≡◌, ◌||◌, IfOk, List, OnOk, [], map, ℕ};
+ghost use Rattle.std.specs.Str.{bytes_eq};
+ghost use Rattle.doc_store.specs.Fields.{are_distinct};
+ghost use Rattle.doc_store.specs.Names.{names_seen, was_seen};
+
+use mdoc_outside::Memory;
+use std::alloc::Global;
+use std::collections::BTreeSet;
+
+/// Names that were seen.
+#[derive(Drop)]
+pub(crate) struct Names<'a> {
+    seen: BTreeSet<&'a str>,
+}
+
+impl<'a> Names<'a> {
+    /// None of them yet.
+    pub(crate) fn new(alloc: Global) -> Names<'a>
+        ensures { names_seen result ≡ [] }
+    {
+        Names {
+            seen: BTreeSet::new(alloc),
+        }
+    }
+
+    /// Whether a name was seen before. From now on it was.
+    pub(crate) fn seen_before(&mut self, name: &'a str) -> Result<bool, Memory>
+        ensures before { IfOk result (λ before. before ≡ was_seen self.old name.now) }
+        ensures after { OnOk result
+            ((other : List ℕ) → was_seen self.new other ≡ (bytes_eq other name.now || was_seen self.old other)) }
+    {
+        let added = self.seen.insert(name)?;
+        Ok(!added)
+    }
+}
+
+/// Whether no two of the names are equal.
+#[tactic(auto, using(crate::proofs::NameSets::new_from_none))]
+pub(crate) fn are_distinct(alloc: Global, names: &[&str]) -> Result<bool, Memory>
+    ensures { IfOk result (λ distinct. distinct ≡ are_distinct (map (λ t. t.now) names.now)) }
+{
+    let mut seen = Names::new(alloc);
+    for name in names {
+        if seen.seen_before(name)? {
+            return Ok(false);
+        }
+    }
+    Ok(true)
+}

@@ -1,0 +1,171 @@
+//! What is wrong with the namespaces of a copy.
+
+ghost use Rattle.std.specs.Prelude.{◌≡◌, flat_map, option_and_then, option_map, slice_get};
+ghost use Rattle.cbor_view.specs.Glance.{items_glanced};
+ghost use Rattle.cbor_view.specs.Glanced.{glanced};
+ghost use Rattle.cbor_view.specs.GlanceItems.{glances_left};
+ghost use Rattle.cbor_view.specs.GlancePairs.{pair_glances_left};
+ghost use Rattle.mdoc_outside.specs.declared.key_name.KeyName.TheVariants as keys;
+ghost use Rattle.doc_store.specs.Faults.{entries_faults, first_fault, item_faults, items_faults, listed, name_faults, space_faults, space_items, space_value, spaces_faults};
+ghost use Rattle.doc_store.specs.Found.{Finds};
+ghost use Rattle.doc_store.specs.Placed.{ok_map, placed};
+
+use crate::StoreCheck;
+use crate::first_fault::{Fault, sooner};
+use crate::form_key::FormKey;
+use crate::item_faults::stored_item_fault;
+use crate::judge::{Judge, of_items};
+use crate::kind_faults::{name_limit, other_kind, text};
+use crate::limits::{MOST_ITEMS, MOST_NAMESPACES};
+use crate::passed::{keys_passed, passed_at};
+use crate::repeated::{items_again, keys_again};
+use cbor_view::{Glance, GlanceItems, GlancePairs};
+use mdoc_outside::{KeyName, LimitName, Memory};
+use std::alloc::Global;
+
+/// The check that the namespaces of a copy have their kind.
+const KIND: StoreCheck = StoreCheck::Field(KeyName::NameSpaces);
+
+/// The namespaces of a copy.
+pub(crate) struct NameSpaces;
+
+impl FormKey for NameSpaces {
+    ghost key = { λ _. record { name = keys.NameSpaces; value = spaces_faults } };
+
+    fn name(&self) -> KeyName {
+        KeyName::NameSpaces
+    }
+
+    fn fault_of(&self, alloc: Global, value: &Glance<'_>) -> Result<Option<Fault>, Memory> {
+        match value.pairs() {
+            Some(entries) => entries_fault(alloc, entries),
+            None => Ok(other_kind(KIND, value)),
+        }
+    }
+}
+
+/// A stored item.
+struct StoredItem;
+
+impl Judge for StoredItem {
+    ghost faults = { λ _. item_faults };
+
+    fn fault_of(&self, _alloc: Global, item: &Glance<'_>) -> Result<Option<Fault>, Memory> {
+        Ok(stored_item_fault(item))
+    }
+}
+
+/// What is wrong with the items of a namespace.
+#[tactic(auto, using(crate::proofs::FirstFaults::first_joined))]
+fn items_fault(alloc: Global, items: GlanceItems<'_>) -> Result<Option<Fault>, Memory>
+    ensures { Finds result (items_faults (glances_left items.entry)) }
+{
+    let of_each = of_items(&StoredItem, alloc, items)?;
+    let again = items_again(alloc, items)?;
+    Ok(sooner(of_each, again))
+}
+
+/// The same, of the value that should be their array.
+fn value_fault(alloc: Global, value: Option<Glance<'_>>) -> Result<Option<Fault>, Memory>
+    ensures { Finds result (space_value (option_map glanced value.entry)) }
+{
+    let Some(value) = value else {
+        return Ok(None);
+    };
+    match value.items() {
+        Some(items) => items_fault(alloc, items),
+        None => Ok(other_kind(KIND, &value)),
+    }
+}
+
+/// What is wrong with the name of a namespace.
+fn name_fault(name: &Glance<'_>) -> Option<Fault>
+    ensures { result ≡ first_fault (name_faults (glanced name.now)) }
+{
+    match text(name) {
+        Some(words) => name_limit(name, words),
+        None => other_kind(KIND, name),
+    }
+}
+
+/// What is wrong with a namespace.
+#[tactic(auto, using(crate::proofs::FirstFaults::first_joined))]
+fn space_fault(
+    alloc: Global,
+    name: &Glance<'_>,
+    value: Option<Glance<'_>>,
+) -> Result<Option<Fault>, Memory>
+    ensures { Finds result (space_faults (glanced name.now, option_map glanced value.entry)) }
+{
+    let of_value = value_fault(alloc, value)?;
+    Ok(sooner(name_fault(name), of_value))
+}
+
+/// What is wrong with each namespace.
+#[tactic(auto, using(crate::proofs::FirstFaults::one_more, crate::proofs::FirstFaults::sooner_none))]
+fn of_spaces(alloc: Global, entries: GlancePairs<'_>) -> Result<Option<Fault>, Memory>
+    ensures { Finds result (flat_map space_faults (pair_glances_left entries.entry)) }
+{
+    let mut found = None;
+    for (name, value) in entries {
+        found = sooner(found, space_fault(alloc, &name, value)?);
+    }
+    Ok(found)
+}
+
+/// The item at a place of an array, or how many places lie beyond it.
+fn item_or_beyond<'a>(items: GlanceItems<'a>, place: usize) -> Result<Glance<'a>, usize>
+    ensures { ok_map glanced result ≡ placed (glances_left items.entry) place }
+{
+    let mut before = place;
+    for item in items {
+        if before == 0 {
+            return Ok(item);
+        }
+        before -= 1;
+    }
+    Err(before)
+}
+
+/// The same of the value of a namespace.
+fn in_value_or_beyond<'a>(value: Option<Glance<'a>>, place: usize) -> Result<Glance<'a>, usize>
+    ensures { ok_map glanced result
+        ≡ placed (listed (option_and_then items_glanced (option_map glanced value.entry))) place }
+{
+    let Some(value) = value else {
+        return Err(place);
+    };
+    match value.items() {
+        Some(items) => item_or_beyond(items, place),
+        None => Err(place),
+    }
+}
+
+/// The item at a place among those of all namespaces, if there is one.
+#[tactic(auto, using(crate::proofs::Placing::get_placed))]
+fn item_of_all<'a>(entries: GlancePairs<'a>, place: usize) -> Option<Glance<'a>>
+    ensures { option_map glanced result
+        ≡ slice_get (flat_map space_items (pair_glances_left entries.entry)) place }
+{
+    let mut before = place;
+    for (_, value) in entries {
+        match in_value_or_beyond(value, before) {
+            Ok(item) => return Some(item),
+            Err(beyond) => before = beyond,
+        }
+    }
+    None
+}
+
+/// What is wrong with all namespaces.
+#[tactic(auto, using(crate::proofs::FirstFaults::first_joined, crate::proofs::FirstFaults::sooner_none))]
+fn entries_fault(alloc: Global, entries: GlancePairs<'_>) -> Result<Option<Fault>, Memory>
+    ensures { Finds result (entries_faults (pair_glances_left entries.entry)) }
+{
+    let of_each = of_spaces(alloc, entries)?;
+    let again = keys_again(alloc, entries)?;
+    let spaces = keys_passed(entries, LimitName::Namespaces, MOST_NAMESPACES);
+    let past = item_of_all(entries, MOST_ITEMS);
+    let items = passed_at(LimitName::Items, MOST_ITEMS, past);
+    Ok(sooner(sooner(sooner(of_each, again), spaces), items))
+}

@@ -1,0 +1,68 @@
+//! Limits on the lists of a store file.
+
+ghost use Rattle.std.specs.Prelude.{◌≡◌, ◌<◌, ◌^◌, option_map, slice_get};
+ghost use Rattle.cbor_view.specs.Glanced.{glanced};
+ghost use Rattle.cbor_view.specs.GlanceItems.{glances_left};
+ghost use Rattle.cbor_view.specs.GlancePairs.{pair_glances_left};
+ghost use Rattle.doc_store.specs.Faults.{first_fault, keys_in, passed, passed_at};
+
+use crate::StoreCheck;
+use crate::first_fault::Fault;
+use crate::kind_faults::fault;
+use cbor_view::{Glance, GlanceItems, GlancePairs};
+use mdoc_outside::LimitName;
+
+/// The item of an array at a place, if there is one.
+fn item_at<'a>(items: GlanceItems<'a>, place: usize) -> Option<Glance<'a>>
+    ensures { option_map glanced result ≡ slice_get (glances_left items.entry) place }
+{
+    let mut before = place;
+    for item in items {
+        if before == 0 {
+            return Some(item);
+        }
+        before -= 1;
+    }
+    None
+}
+
+/// The key of a map at a place, if there is one.
+fn key_at<'a>(entries: GlancePairs<'a>, place: usize) -> Option<Glance<'a>>
+    ensures { option_map glanced result ≡ slice_get (keys_in (pair_glances_left entries.entry)) place }
+{
+    let mut before = place;
+    for (key, _) in entries {
+        if before == 0 {
+            return Some(key);
+        }
+        before -= 1;
+    }
+    None
+}
+
+/// The fault of the item that passes a limit, if there is one.
+pub(crate) fn passed_at(limit: LimitName, most: usize, item: Option<Glance<'_>>) -> Option<Fault>
+    requires { most < 2 ^ 32 }
+    ensures { result ≡ first_fault (passed_at limit most (option_map glanced item.entry)) }
+{
+    match item {
+        Some(item) => Some(fault(StoreCheck::Limit(limit, most as u64 + 1), &item)),
+        None => None,
+    }
+}
+
+/// The item of an array that passes a limit.
+pub(crate) fn items_passed(items: GlanceItems<'_>, limit: LimitName, most: usize) -> Option<Fault>
+    requires { most < 2 ^ 32 }
+    ensures { result ≡ first_fault (passed limit most (glances_left items.entry)) }
+{
+    passed_at(limit, most, item_at(items, most))
+}
+
+/// The key of a map that passes a limit.
+pub(crate) fn keys_passed(entries: GlancePairs<'_>, limit: LimitName, most: usize) -> Option<Fault>
+    requires { most < 2 ^ 32 }
+    ensures { result ≡ first_fault (passed limit most (keys_in (pair_glances_left entries.entry))) }
+{
+    passed_at(limit, most, key_at(entries, most))
+}

@@ -1,0 +1,165 @@
+//! The keys of a store file whose values are numbers, texts and truth values, and the one of an array of four.
+
+ghost use Rattle.std.specs.Prelude.{◌≡◌};
+ghost use Rattle.cbor_view.specs.Glanced.{glanced};
+ghost use Rattle.doc_store.specs.Faults.{auth_faults, auth_of_issuer, doc_type_faults, first_fault, key_number, used_faults, version_faults};
+ghost use Rattle.mdoc_outside.specs.declared.key_name.KeyName.TheVariants as keys;
+
+use crate::StoreCheck;
+use crate::first_fault::Fault;
+use crate::form_key::FormKey;
+use crate::kind_faults::{boolean, fault, name_limit, other_kind, text, uint};
+use cbor_view::Glance;
+use mdoc_outside::{KeyName, Memory};
+use std::alloc::Global;
+
+/// The version, which is 1.
+pub(crate) struct Version;
+
+impl FormKey for Version {
+    ghost key = { λ _. record { name = keys.Version; value = version_faults } };
+
+    fn name(&self) -> KeyName {
+        KeyName::Version
+    }
+
+    fn fault_of(&self, _alloc: Global, value: &Glance<'_>) -> Result<Option<Fault>, Memory> {
+        Ok(version_fault(value))
+    }
+}
+
+fn version_fault(value: &Glance<'_>) -> Option<Fault>
+    ensures { result ≡ first_fault (version_faults (glanced value.now)) }
+{
+    match uint(value) {
+        Some(1) => None,
+        Some(_) => Some(fault(StoreCheck::Version, value)),
+        None => other_kind(StoreCheck::Field(KeyName::Version), value),
+    }
+}
+
+/// A document's type, a name.
+pub(crate) struct DocType;
+
+impl FormKey for DocType {
+    ghost key = { λ _. record { name = keys.DocType; value = doc_type_faults } };
+
+    fn name(&self) -> KeyName {
+        KeyName::DocType
+    }
+
+    fn fault_of(&self, _alloc: Global, value: &Glance<'_>) -> Result<Option<Fault>, Memory> {
+        Ok(doc_type_fault(value))
+    }
+}
+
+fn doc_type_fault(value: &Glance<'_>) -> Option<Fault>
+    ensures { result ≡ first_fault (doc_type_faults (glanced value.now)) }
+{
+    match text(value) {
+        Some(name) => name_limit(value, name),
+        None => other_kind(StoreCheck::Field(KeyName::DocType), value),
+    }
+}
+
+/// How a document is authenticated, 0 or 1.
+pub(crate) struct Auth;
+
+impl FormKey for Auth {
+    ghost key = { λ _. record { name = keys.Auth; value = auth_faults } };
+
+    fn name(&self) -> KeyName {
+        KeyName::Auth
+    }
+
+    fn fault_of(&self, _alloc: Global, value: &Glance<'_>) -> Result<Option<Fault>, Memory> {
+        Ok(auth_fault(value))
+    }
+}
+
+fn auth_fault(value: &Glance<'_>) -> Option<Fault>
+    ensures { result ≡ first_fault (auth_faults (glanced value.now)) }
+{
+    let check = StoreCheck::Field(KeyName::Auth);
+    match uint(value) {
+        Some(number) if number <= 1 => None,
+        Some(_) => Some(fault(check, value)),
+        None => other_kind(check, value),
+    }
+}
+
+/// The number of a copy's device key, below 2^32.
+pub(crate) struct DeviceKeyNumber;
+
+impl FormKey for DeviceKeyNumber {
+    ghost key = { λ _. record { name = keys.Key; value = key_number } };
+
+    fn name(&self) -> KeyName {
+        KeyName::Key
+    }
+
+    fn fault_of(&self, _alloc: Global, value: &Glance<'_>) -> Result<Option<Fault>, Memory> {
+        Ok(device_key_fault(value))
+    }
+}
+
+fn device_key_fault(value: &Glance<'_>) -> Option<Fault>
+    ensures { result ≡ first_fault (key_number (glanced value.now)) }
+{
+    let check = StoreCheck::Field(KeyName::Key);
+    match uint(value) {
+        Some(number) if number < 1 << 32 => None,
+        Some(_) => Some(fault(check, value)),
+        None => other_kind(check, value),
+    }
+}
+
+/// Whether a copy was used.
+pub(crate) struct Used;
+
+impl FormKey for Used {
+    ghost key = { λ _. record { name = keys.Used; value = used_faults } };
+
+    fn name(&self) -> KeyName {
+        KeyName::Used
+    }
+
+    fn fault_of(&self, _alloc: Global, value: &Glance<'_>) -> Result<Option<Fault>, Memory> {
+        Ok(used_fault(value))
+    }
+}
+
+fn used_fault(value: &Glance<'_>) -> Option<Fault>
+    ensures { result ≡ first_fault (used_faults (glanced value.now)) }
+{
+    match boolean(value) {
+        Some(_) => None,
+        None => other_kind(StoreCheck::Field(KeyName::Used), value),
+    }
+}
+
+/// The issuer's signature, an array of four (RFC 9052, section 4.2).
+pub(crate) struct IssuerAuth;
+
+impl FormKey for IssuerAuth {
+    ghost key = { λ _. record { name = keys.IssuerAuth; value = auth_of_issuer } };
+
+    fn name(&self) -> KeyName {
+        KeyName::IssuerAuth
+    }
+
+    fn fault_of(&self, _alloc: Global, value: &Glance<'_>) -> Result<Option<Fault>, Memory> {
+        Ok(issuer_auth_fault(value))
+    }
+}
+
+fn issuer_auth_fault(value: &Glance<'_>) -> Option<Fault>
+    ensures { result ≡ first_fault (auth_of_issuer (glanced value.now)) }
+{
+    let check = StoreCheck::Field(KeyName::IssuerAuth);
+    match value.count() {
+        Some(4) => None,
+        Some(_) => Some(fault(check, value)),
+        None => other_kind(check, value),
+    }
+}
