@@ -10,3 +10,4 @@ pub mod RequestLemmas
 pub mod RunLemmas
 pub mod WishNames
 pub mod WriterLemmas
+pub mod StoreStatus

@@ -1,9 +1,13 @@
 -- The command `draft`: what its three files give, file by file, and the line that it prints of them.
-use Rattle.std.specs.Prelude.{ℕ, nat_le, List, length, Option, Some, None, Result, Ok, Err, option_map, if◌then◌else◌}
+use Rattle.std.specs.Prelude.{ℕ, nat_le, List, [], length, Option, Some, None, Result, Ok, Err, if◌then◌else◌, unwrap_or}
 use Rattle.mdoc_outside.specs.Files.{Files, file_in}
-use Rattle.mdoc_outside.specs.ResultSteps.{◌>>=◌, or_fault}
+use Rattle.mdoc_outside.specs.ResultSteps.{◌>>=◌}
+use Rattle.doc_store.specs.Faults.{store_fault}
 use Rattle.doc_store.specs.Held.{Place}
 use Rattle.doc_store.specs.Store.{Store, store}
+use Rattle.doc_store.specs.declared.first_fault.Fault.{Fault}
+use Rattle.doc_store.specs.declared.store_check.StoreCheck.{StoreCheck}
+use Rattle.doc_store.specs.declared.store_check.StoreCheck.TheVariants as stores
 use Rattle.mdoc_outside.specs.declared.limit_name.LimitName.TheVariants.{FileBytes}
 use Rattle.mdoc_program.specs.Core.{core}
 use Rattle.mdoc_program.specs.Order.{DraftNames, draft_order}
@@ -51,9 +55,21 @@ pub record StoreFile : Type 0 where
   pub bytes : List ℕ
   pub documents : Store
 
--- The store of a file.
-abbrev pub store_file : List ℕ → Option StoreFile
-store_file bytes = option_map (λ documents. record { bytes = bytes; documents = documents }) (store bytes)
+abbrev pub store_file : List ℕ → StoreFile
+store_file bytes = record { bytes = bytes; documents = unwrap_or (store bytes) [] }
+
+-- the status of a store file by its first fault: a limit that is passed, or the check that fails, and where
+abbrev pub check_status : ℕ → StoreCheck → Status
+check_status at (stores.Limit limit number) = Limit limit number
+check_status at check = Form roles.Store (checks.Store check) at
+
+abbrev pub fault_status : Fault → Status
+fault_status f = check_status f.at f.check
+
+-- A file without a fault spells a store; else its first fault is told.
+abbrev pub without_fault : Option Fault → StoreFile → Result StoreFile Status
+without_fault None file = Ok file
+without_fault (Some f) file = Err (fault_status f)
 
 -- What the three files give: the store, the documents that are asked for, and the holder's rules.
 pub record Draft : Type 0 where
@@ -62,7 +78,7 @@ pub record Draft : Type 0 where
   pub rules : List Rule
 
 abbrev pub store_in : Files → List ℕ → Result StoreFile Status
-store_in files name = judged roles.Store (λ bytes. or_fault (Form roles.Store checks.Unread 0) (store_file bytes)) (file_in files name)
+store_in files name = judged roles.Store (λ bytes. without_fault (store_fault bytes) (store_file bytes)) (file_in files name)
 
 abbrev pub asked_in : Files → List ℕ → Result (List DocDraft) Status
 asked_in files name = judged roles.Wishes (λ text. or_status roles.Wishes (wishes_of text)) (file_in files name)

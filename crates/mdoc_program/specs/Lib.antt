@@ -1,5 +1,6 @@
 pub mod AnsweredDocument
 pub mod Cases
+pub mod CheckText
 pub mod Core
 pub mod Draft
 pub mod DraftOrder

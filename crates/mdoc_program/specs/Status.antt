@@ -4,8 +4,7 @@ use Rattle.std.specs.Fmt.{decimal}
 use Rattle.mdoc_outside.specs.LimitName.{limit_text}
 use Rattle.mdoc_program.specs.declared.role.Role.{Role}
 use Rattle.mdoc_program.specs.declared.role.Role.TheVariants as roles
-use Rattle.mdoc_program.specs.declared.form_check.FormCheck.{FormCheck}
-use Rattle.mdoc_program.specs.declared.form_check.FormCheck.TheVariants.{Line, Unread}
+use Rattle.mdoc_program.specs.CheckText.{check_text}
 use Rattle.mdoc_program.specs.declared.status.Status.{Status}
 use Rattle.mdoc_program.specs.declared.status.Status.TheVariants as statuses
 
@@ -34,10 +33,6 @@ role_text roles.WalletTape = codes "WalletTape"
 role_text roles.ReaderTape = codes "ReaderTape"
 role_text roles.Dice = codes "Dice"
 role_text roles.Schedule = codes "Schedule"
-
-abbrev pub check_text : FormCheck → List ℕ
-check_text Line = codes "Line"
-check_text Unread = codes "Unread"
 
 -- the variant's name and its values, each after one space
 abbrev pub status_text : Status → List ℕ

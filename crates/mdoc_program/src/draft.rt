@@ -1,11 +1,9 @@
 // The command `draft`: its files, read and judged one by one, and the line that it prints.
-ghost use Rattle.std.specs.Prelude.{◌≡◌, IfOk, is_some};
+ghost use Rattle.std.specs.Prelude.{◌≡◌, IfOk};
 ghost use Rattle.mdoc_outside.specs.Files.{file_in};
-ghost use Rattle.doc_store.specs.Store.{store};
-ghost use Rattle.doc_store.specs.StoreFault.{Tells};
-ghost use Rattle.mdoc_program.specs.Draft.{bytes_of, store_in, asked_in, rules_in, draft_of, core_of, printed};
+ghost use Rattle.mdoc_program.specs.Draft.{bytes_of, store_file, store_in, fault_status, asked_in, rules_in, draft_of, core_of, printed};
 ghost use Rattle.mdoc_program.specs.DraftOrder.{names};
-ghost use Rattle.mdoc_program.specs.Drafted.{draft_seen, file_seen, IsStore};
+ghost use Rattle.mdoc_program.specs.Drafted.{draft_seen, IsStore, JudgesStore};
 ghost use Rattle.mdoc_program.specs.FileSteps.{Steps};
 ghost use Rattle.mdoc_program.specs.Request.{IsRequest};
 
@@ -14,7 +12,7 @@ use crate::draft_order::DraftOrder;
 use crate::drafted::Drafted;
 use crate::response_writer::write_core;
 use crate::{FileFault, FormCheck, RequestDraft, Role, RuleFault, Rules, Status, read_wishes};
-use doc_store::{Store, StoreFault};
+use doc_store::{Fault, Store, StoreCheck, StoreFault};
 use mdoc_outside::{Cabinet, CabinetFault, LimitName, Memory, Octets};
 use std::alloc::Global;
 
@@ -42,20 +40,30 @@ fn bytes_of<C: Cabinet>(cabinet: &mut C, name: &str, role: Role) -> Result<Octet
     }
 }
 
-// Whether bytes spell a store.
+// Whether bytes spell a store, or their first fault.
 fn check_store(alloc: Global, bytes: &[u8]) -> Result<(), StoreFault>
-    ensures { Tells result (is_some (store bytes.now)) }
+    ensures { JudgesStore result bytes.now }
 {
     match Store::read(alloc, bytes) {
         Ok(_) => Ok(()),
-        Err(StoreFault::Unread) => Err(StoreFault::Unread),
-        Err(StoreFault::Memory) => Err(StoreFault::Memory),
+        Err(fault) => Err(fault),
+    }
+}
+
+// The status of a store file by its first fault.
+fn status_of(fault: Fault) -> Status
+    ensures { result ≡ fault_status fault }
+{
+    match fault.check {
+        StoreCheck::Limit(name, number) => Status::Limit(name, number),
+        check => Status::Form(Role::Store, FormCheck::Store(check), fault.at as u64),
     }
 }
 
 // The bytes of the store.
+#[tactic(auto, using(crate::proofs::StoreStatus::fault_told))]
 fn read_store<C: Cabinet>(alloc: Global, cabinet: &mut C, name: &str) -> Result<Octets, Status>
-    ensures read { Steps file_seen (λ files. store_in files name.now) (C.files cabinet.old)
+    ensures read { Steps store_file (λ files. store_in files name.now) (C.files cabinet.old)
         (C.faults cabinet.old) (C.faults cabinet.new) result }
     ensures store { IfOk result (λ bytes. IsStore bytes) }
     ensures same { C.files cabinet.new ≡ C.files cabinet.old }
@@ -63,7 +71,7 @@ fn read_store<C: Cabinet>(alloc: Global, cabinet: &mut C, name: &str) -> Result<
     let bytes = bytes_of(cabinet, name, Role::Store)?;
     match check_store(alloc, bytes.as_slice()) {
         Ok(()) => Ok(bytes),
-        Err(StoreFault::Unread) => Err(Status::Form(Role::Store, FormCheck::Unread, 0)),
+        Err(StoreFault::Form(fault)) => Err(status_of(fault)),
         Err(StoreFault::Memory) => Err(Status::Memory),
     }
 }
@@ -132,7 +140,7 @@ fn core_of(alloc: Global, drafted: &Drafted) -> Result<Octets, Memory>
 {
     let store = match Store::read(alloc, drafted.store.as_slice()) {
         Ok(store) => store,
-        Err(StoreFault::Unread) => unreachable!(),
+        Err(StoreFault::Form(_)) => unreachable!(),
         Err(StoreFault::Memory) => return Err(Memory),
     };
     let asked = drafted.asked.documents.as_slice();

@@ -1,7 +1,9 @@
 // Why a file is outside its form.
-ghost use Rattle.std.specs.Prelude.{Some};
-ghost use Rattle.mdoc_program.specs.Status.{check_text};
+ghost use Rattle.std.specs.Prelude.{◌≡◌, Some};
+ghost use Rattle.mdoc_program.specs.CheckText.{check_text, item_fault_text, kind_text};
 
+use cbor_view::CborKind;
+use doc_store::{ItemFault, StoreCheck};
 use std::fmt;
 
 /// Why a file is outside its form.
@@ -9,8 +11,36 @@ use std::fmt;
 pub enum FormCheck {
     /// The line of this number is outside the grammar of a line file.
     Line,
-    /// It is no store, or past a limit of a store.
-    Unread,
+    /// The first fault of a store file: this check fails at the place.
+    Store(StoreCheck),
+}
+
+// The name of a fault of CBOR.
+fn kind_name(kind: CborKind) -> &'static str
+    ensures { result.now ≡ kind_text kind }
+{
+    match kind {
+        CborKind::Truncated => "Truncated",
+        CborKind::Reserved => "Reserved",
+        CborKind::Chunked => "Chunked",
+        CborKind::Indefinite => "Indefinite",
+        CborKind::Length => "Length",
+        CborKind::Deep => "Deep",
+        CborKind::BadText => "BadText",
+        CborKind::Trailing => "Trailing",
+    }
+}
+
+// The name of a fault of a stored item.
+fn item_fault_name(fault: ItemFault) -> &'static str
+    ensures { result.now ≡ item_fault_text fault }
+{
+    match fault {
+        ItemFault::NotTagged => "NotTagged",
+        ItemFault::Cbor(_) => "Cbor",
+        ItemFault::Doubled(_) => "Doubled",
+        ItemFault::Field(_) => "Field",
+    }
 }
 
 impl fmt::Display for FormCheck {
@@ -18,8 +48,17 @@ impl fmt::Display for FormCheck {
 
     fn fmt<W: fmt::Write>(&self, f: &mut fmt::Formatter<W>) -> fmt::Result {
         match self {
-            FormCheck::Line => f.write_str("Line"),
-            FormCheck::Unread => f.write_str("Unread"),
+            FormCheck::Line => write!(f, "Line"),
+            FormCheck::Store(StoreCheck::Cbor(kind)) => write!(f, "Cbor {}", kind_name(*kind)),
+            FormCheck::Store(StoreCheck::Field(key)) => write!(f, "Field {}", key.text()),
+            FormCheck::Store(StoreCheck::Version) => write!(f, "Version"),
+            FormCheck::Store(StoreCheck::Doubled) => write!(f, "Doubled"),
+            FormCheck::Store(StoreCheck::Item(fault)) => {
+                write!(f, "Item {}", item_fault_name(*fault))
+            }
+            FormCheck::Store(StoreCheck::Limit(limit, number)) => {
+                write!(f, "Limit {} {number}", limit.text())
+            }
         }
     }
 }

@@ -66,7 +66,7 @@ fn words(rt: HostRuntime) -> Result<(), Fail> {
         ),
         (
             "draft --store w --wishes absent --rules r",
-            "Form Store Unread 0",
+            "Form Store Field version 0",
         ),
         (
             "draft --store s --wishes r --rules absent",

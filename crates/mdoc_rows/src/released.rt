@@ -240,21 +240,40 @@ fn what_is_released(rt: HostRuntime) -> Result<(), Fail> {
     Ok(())
 }
 
-// Bytes that are no store: nothing is printed.
+// Bytes that are no store, and how they are refused: nothing is printed.
 #[test]
 fn no_stores(rt: HostRuntime) -> Result<(), Fail> {
     let alloc = rt.alloc();
-    for (front, back) in [
-        (b"".as_slice(), b"".as_slice()),
-        (STORE, b"\x81"),
-        (STORE, b"\x80\x80"),
-        (STORE, b"\x81\x80"),
-        (b"\xa2\x67version\x02\x69documents", b"\x80"),
-        (b"\xa1\x69documents", b"\x80"),
+    for (front, back, status) in [
+        (
+            b"".as_slice(),
+            b"".as_slice(),
+            "Form Store Cbor Truncated 0",
+        ),
+        (STORE, b"", "Form Store Cbor Truncated 20"),
+        (
+            b"\xa2\x67version\x01\x69document",
+            b"",
+            "Form Store Cbor Truncated 10",
+        ),
+        (STORE, b"\x80\x00", "Form Store Cbor Trailing 21"),
+        (
+            b"\xa2\x67version\x09\x69documents",
+            b"\x80",
+            "Form Store Version 9",
+        ),
+        (STORE, b"\x81", "Form Store Cbor Truncated 21"),
+        (STORE, b"\x81\x80", "Form Store Field docType 21"),
+        (b"\xa1\x69documents", b"\x80", "Form Store Field version 0"),
+        (
+            b"\xa4\x61a\x01\x67version\x01\x67version\x01",
+            b"",
+            "Form Store Doubled 13",
+        ),
     ] {
         let store = joined(alloc, &[front, back])?;
         let outcome = drafted(alloc, &store, "document d\nwant n a 0\n", ALL)?;
-        assert_eq!(rt; outcome.status.as_str(), "Form Store Unread 0", "{store:?}");
+        assert_eq!(rt; outcome.status.as_str(), status, "{store:?}");
         assert!(rt; outcome.printed.is_empty(), "{store:?}");
     }
     Ok(())
