@@ -1,0 +1,90 @@
+-- Reading the lines of a roots file one behind the other, as a loop does.
+use Rattle.std.proofs.Common.{◌≡◌, ℕ, suc, ◌-◌, ◌<◌, ◌≤◌, List, [], ◌∷◌, ◌++◌, length, take, Result, Ok, Err, refl, sym, ap, ◌∙◌, append_assoc, append-nil, arith, length-append, true, false}
+use Rattle.std.specs.Prelude.{nat_le}
+use Rattle.std.proofs.Math.Seq.{take-nil}
+use Rattle.std.proofs.lemmas.Bool.Decides.{nat_tests}
+use Rattle.mdoc_outside.specs.Lines.{Line, file_lines}
+use Rattle.mdoc_outside.specs.ResultSteps.{◌>>=◌}
+use Rattle.cert_view.specs.RootLine.{Listed}
+use Rattle.cert_view.specs.Roots.{line_root, each_line, within_limit, roots_of, IsRootsFault}
+use Rattle.cert_view.specs.declared.roots_fault.RootsFault.{RootsFault}
+use Rattle.cert_view.specs.declared.roots_fault.RootsFault.TheVariants as faults
+
+-- what was read before, in front of what is read
+abbrev pub with_front : List Listed → Result (List Listed) RootsFault → Result (List Listed) RootsFault
+with_front front read = read >>= λ rest. Ok (front ++ rest)
+
+-- with the roots before them, what the lines give: so many of them as there are roots missing to 65
+abbrev pub read_on : List Listed → List Line → Result (List Listed) RootsFault
+read_on front lines = with_front front (each_line (take (65 - length front) lines)) >>= within_limit
+
+same_front : (read : Result (List Listed) RootsFault) → with_front [] read ≡ read
+same_front (Ok rest) = refl
+same_front (Err fault) = refl
+
+pub read_on-start : (text : List ℕ) → read_on [] (file_lines text) ≡ roots_of text
+read_on-start text = ap (λ (r : Result (List Listed) RootsFault). r >>= within_limit) (same_front (each_line (take 65 (file_lines text))))
+
+-- ---- one line more
+
+regroup : (front : List Listed) (root : Listed) (read : Result (List Listed) RootsFault) →
+    with_front front (read >>= λ others. Ok (root ∷ others)) ≡ with_front (front ++ root ∷ []) read
+regroup front root (Ok others) = ap Ok (sym (append_assoc front (root ∷ []) others))
+regroup front root (Err fault) = refl
+
+-- what a line says, before so many others
+abbrev and_others : ℕ → List Line → Result Listed RootsFault → Result (List Listed) RootsFault
+and_others count lines said = said >>= λ root. each_line (take count lines) >>= λ others. Ok (root ∷ others)
+
+abbrev after_front : List Listed → ℕ → List Line → Result Listed RootsFault → Result (List Listed) RootsFault
+after_front front count lines said = with_front front (and_others count lines said) >>= within_limit
+
+first_line : (front : List Listed) (line : Line) (lines : List Line) (count : ℕ) → 65 - length front ≡ suc count →
+    read_on front (line ∷ lines) ≡ after_front front count lines (line_root line)
+first_line front line lines count same = ap (λ (n : ℕ). with_front front (each_line (take n (line ∷ lines))) >>= within_limit) same
+
+pub read_on-bad : (front : List Listed) (line : Line) (lines : List Line) (fault : RootsFault) →
+    line_root line ≡ Err fault → length front ≤ 64 → read_on front (line ∷ lines) ≡ Err fault
+read_on-bad front line lines fault said few =
+    first_line front line lines (64 - length front) (omega arith)
+    ∙ ap (after_front front (64 - length front) lines) said
+
+pub read_on-next : (front : List Listed) (line : Line) (lines : List Line) (root : Listed) →
+    line_root line ≡ Ok root → length front < 64 → read_on front (line ∷ lines) ≡ read_on (front ++ root ∷ []) lines
+read_on-next front line lines root said few =
+    let count = 64 - length front in
+    let left : 65 - length (front ++ root ∷ []) ≡ count = omega (arith, length-append front (root ∷ [])) in
+    first_line front line lines count (omega arith)
+    ∙ ap (after_front front count lines) said
+    ∙ ap (λ (r : Result (List Listed) RootsFault). r >>= within_limit) (regroup front root (each_line (take count lines)))
+    ∙ ap (λ (n : ℕ). with_front (front ++ root ∷ []) (each_line (take n lines)) >>= within_limit) (sym left)
+
+over_limit : (roots : List Listed) → 64 < length roots → within_limit roots ≡ Err (faults.TooMany 65)
+over_limit roots many =
+    let over : nat_le (length roots) 64 ≡ false = grind (arith, nat_tests) in
+    rw over refl
+
+pub read_on-full : (front : List Listed) (line : Line) (lines : List Line) (root : Listed) →
+    line_root line ≡ Ok root → length front ≡ 64 → read_on front (line ∷ lines) ≡ Err (faults.TooMany 65)
+read_on-full front line lines root said full =
+    first_line front line lines 0 (omega arith)
+    ∙ ap (after_front front 0 lines) said
+    ∙ over_limit (front ++ root ∷ []) (omega (arith, length-append front (root ∷ [])))
+
+-- ---- no line more
+
+within : (roots : List Listed) → length roots ≤ 64 → within_limit roots ≡ Ok roots
+within roots few =
+    let fits : nat_le (length roots) 64 ≡ true = grind (arith, nat_tests) in
+    rw fits refl
+
+pub read_on-end : (front : List Listed) → length front ≤ 64 → read_on front [] ≡ Ok front
+read_on-end front few =
+    rw (take-nil (65 - length front), append-nil front) (within front few)
+
+-- the fault of a line is that of the reading
+pub read_on-fault : (front : List Listed) (line : Line) (lines : List Line) (fault : RootsFault) →
+    IsRootsFault fault (line_root line) → length front ≤ 64 → IsRootsFault fault (read_on front (line ∷ lines))
+read_on-fault front line lines (faults.Line number) said few = read_on-bad front line lines (faults.Line number) said few
+read_on-fault front line lines (faults.TooMany number) said few = read_on-bad front line lines (faults.TooMany number) said few
+read_on-fault front line lines faults.Memory said few = tt

@@ -1,0 +1,13 @@
+pub mod Assembled
+pub mod BothFaults
+pub mod EachRoot
+pub mod NumberWorth
+pub mod Padding
+pub mod RootNames
+pub mod TimeTexts
+pub mod WrittenFields
+pub mod WrittenNumbers
+pub mod WrittenParts
+pub mod WrittenTexts
+pub mod WrittenTimes
+pub mod WrittenWhole

@@ -1,0 +1,50 @@
+//! Certificates of X.509 (RFC 5280) in the profile of the mobile driving licence, borrowed from the bytes
+//! that spell them.
+#![tactic(auto)]
+
+mod cert;
+mod cert_check;
+mod cert_draft;
+mod cert_fault;
+mod elements;
+mod extensions;
+mod first_fault;
+mod integers;
+mod keys;
+mod laws;
+mod root;
+mod root_line;
+mod roots;
+mod roots_fault;
+mod shapes;
+mod sharing;
+mod signatures;
+mod signed;
+mod signed_parts;
+mod times;
+mod verify_ask;
+mod write_fault;
+mod writing;
+mod written_laws;
+mod written_parts;
+
+pub use cert::Cert;
+pub use cert_check::CertCheck;
+pub use cert_draft::CertDraft;
+pub use cert_fault::CertFault;
+pub use laws::number_keeps_its_worth;
+pub use root::Root;
+pub use roots::Roots;
+pub use roots_fault::RootsFault;
+pub use sharing::crosses;
+pub use verify_ask::VerifyAsk;
+pub use write_fault::WriteFault;
+pub use writing::write_cert;
+pub use written_laws::written_is_read;
+
+#[cfg(test)]
+mod certificates;
+#[cfg(test)]
+mod tests;
+#[cfg(test)]
+mod written_tests;

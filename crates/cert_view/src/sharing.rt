@@ -1,0 +1,29 @@
+//! What may be handed to another thread and shared with it.
+
+use crate::cert::Cert;
+use crate::cert_fault::CertFault;
+use crate::root::Root;
+use crate::roots::Roots;
+use crate::roots_fault::RootsFault;
+use crate::verify_ask::VerifyAsk;
+
+fn is_send<T: Send>() {}
+
+fn is_sync<T: Sync>() {}
+
+/// Certificates, what is asked of them, roots and their faults may be handed to another thread, and
+/// shared with it.
+pub fn crosses() {
+    is_send::<Cert<'static>>();
+    is_sync::<Cert<'static>>();
+    is_send::<VerifyAsk<'static>>();
+    is_sync::<VerifyAsk<'static>>();
+    is_send::<Root>();
+    is_sync::<Root>();
+    is_send::<Roots>();
+    is_sync::<Roots>();
+    is_send::<CertFault>();
+    is_sync::<CertFault>();
+    is_send::<RootsFault>();
+    is_sync::<RootsFault>();
+}

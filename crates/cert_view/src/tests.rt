@@ -1,0 +1,97 @@
+use super::*;
+use std::test::*;
+
+/// A certificate that OpenSSL wrote, in hexadecimal digits: `openssl req -x509 -new -key key.pem
+/// -sha256 -set_serial 2 -subj /CN=signer -days 9000 -addext
+/// extendedKeyUsage=1.0.18013.5.1.2 -outform DER`, the key being one of prime256v1.
+const SIGNER: &str = "\
+3082017930820120a003020102020102300a06082a8648ce3d0403023011310f300d06035504030c06736967\
+6e65723020170d3236313230313033303132385a180f32303531303732333033303132385a3011310f300d06\
+035504030c067369676e65723059301306072a8648ce3d020106082a8648ce3d03010703420004ed5895a8e1\
+0906b6cfd51d0d835aa85c1426fe01a7d78326a4462f3cb653d9c385f0b8571bdf8b73ded2090b5e223f003a\
+44ee4be96142bf24963c9e8870740ea3673065301d0603551d0e04160414d66a4147cd6a59b12f5ad0c2a91e\
+731b69f47a27301f0603551d23041830168014d66a4147cd6a59b12f5ad0c2a91e731b69f47a27300f060355\
+1d130101ff040530030101ff30120603551d25040b3009060728818c5d050102300a06082a8648ce3d040302\
+034700304402202c5c6225b882908a3cbf21a20a7aa7f926645ff418966fb5821d0dec0697757d022042cc0a\
+1dc316e297c5e349172fbc68695fcdf2853e591ff13b51af24286d3565";
+
+#[test]
+fn reads_the_fields(rt: HostRuntime) -> Result<(), Fail> {
+    let bytes = hex::decode(rt.alloc(), SIGNER).ok().ok_or("digits")?;
+    let cert = Cert::read(&bytes).ok().ok_or("a certificate")?;
+    assert_eq!(rt; Some(cert.issuer()), bytes.get(28..47));
+    assert_eq!(rt; Some(cert.subject()), bytes.get(81..100));
+    assert_eq!(rt; Some(cert.key().x.as_slice()), bytes.get(127..159));
+    assert_eq!(rt; Some(cert.key().y.as_slice()), bytes.get(159..191));
+    assert_eq!(rt; cert.not_before(), 1_796_094_088);
+    assert_eq!(rt; cert.not_after(), 2_573_694_088);
+    assert!(rt; cert.signs_documents());
+    Ok(())
+}
+
+/// A place of a byte, another byte there, and the fault of the certificate with that byte.
+const FAULTS: [(usize, u8, CertCheck, usize); 17] = [
+    (6, 0x02, CertCheck::Der, 4),
+    (11, 0x02, CertCheck::Der, 10),
+    (0, 0x31, CertCheck::Shape, 0),
+    (8, 0xa1, CertCheck::Shape, 8),
+    (49, 0x16, CertCheck::Shape, 49),
+    (12, 0x01, CertCheck::VersionNot3, 10),
+    (27, 0x03, CertCheck::Algorithm, 16),
+    (307, 0x03, CertCheck::Algorithm, 296),
+    (53, b'2', CertCheck::Time, 49),
+    (80, b'z', CertCheck::Time, 64),
+    (112, 0x02, CertCheck::KeyKind, 100),
+    (126, 0x02, CertCheck::KeyKind, 100),
+    (315, 0xac, CertCheck::Signature, 308),
+    (314, 0x21, CertCheck::Signature, 308),
+    (287, 0x05, CertCheck::Extension, 276),
+    (265, 0x25, CertCheck::Extension, 259),
+    (232, 0x25, CertCheck::Extension, 226),
+];
+
+#[test]
+fn tells_the_first_check(rt: HostRuntime) -> Result<(), Fail> {
+    for (place, byte, check, at) in FAULTS {
+        let mut bytes = hex::decode(rt.alloc(), SIGNER).ok().ok_or("digits")?;
+        let cell = bytes.get_mut(place).ok_or("a place")?;
+        *cell = byte;
+        let fault = Cert::read(&bytes).err();
+        assert_eq!(rt; fault, Some(CertFault { check, at }), "{place}");
+    }
+    Ok(())
+}
+
+/// The first byte of an INTEGER's body decides its sign.
+#[test]
+fn numbers_have_32_bytes(rt: HostRuntime) {
+    let mut high = [0; 33];
+    high[1] = 0x80;
+    let mut r = [0; 32];
+    r[0] = 0x80;
+    let mut one = [0; 32];
+    one[31] = 1;
+    assert_eq!(rt; integers::number_of(&high), Some(r));
+    assert_eq!(rt; integers::number_of(b"\x01"), Some(one));
+    assert_eq!(rt; integers::number_of(b"\x00"), Some([0; 32]));
+    assert_eq!(rt; integers::number_of(b""), None);
+    assert_eq!(rt; integers::number_of(b"\x00\x01"), None);
+    assert_eq!(rt; integers::number_of(b"\x80"), None);
+    assert_eq!(rt; integers::number_of(&[1; 33]), None);
+}
+
+/// Texts of times and the seconds since 1970, by `date -u +%s -d`.
+#[test]
+fn times_have_their_century(rt: HostRuntime) {
+    assert_eq!(rt; times::utc_time(b"491231235959Z"), Some(2_524_607_999));
+    assert_eq!(rt; times::utc_time(b"500101000000Z"), Some(-631_152_000));
+    assert_eq!(rt; times::utc_time(b"5001010000Z"), None);
+    assert_eq!(rt; times::utc_time(b"500101000000+"), None);
+    assert_eq!(rt;
+        times::generalized_time(b"20500101000000Z"),
+        Some(2_524_608_000)
+    );
+    assert_eq!(rt; times::generalized_time(b"20500101000060Z"), None);
+    assert_eq!(rt; times::generalized_time(b"20500101240000Z"), None);
+    assert_eq!(rt; times::generalized_time(b"20500101000000.0Z"), None);
+}
