@@ -5,6 +5,7 @@ pub mod NumberWorth
 pub mod Padding
 pub mod RootNames
 pub mod TimeTexts
+pub mod UtcYears
 pub mod WrittenFields
 pub mod WrittenNumbers
 pub mod WrittenParts
