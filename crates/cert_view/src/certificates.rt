@@ -1,4 +1,4 @@
-//! Certificates that another implementation wrote, as `tests/certificates` prints them, with what it
+//! Certificates that another implementation wrote, as `tests/vectors/certificates` prints them, with what it
 //! reads of them.
 
 use crate::*;

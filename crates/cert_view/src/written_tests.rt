@@ -18,7 +18,7 @@ struct Case {
     bytes: &'static str,
 }
 
-/// What `tests/written_certificates` writes. The keys are the first multiples of the curve's base
+/// What `tests/vectors/written_certificates` writes. The keys are the first multiples of the curve's base
 /// point, behind `00` and `04`.
 const CASES: [Case; 3] = [
     Case {

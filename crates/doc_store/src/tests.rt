@@ -187,7 +187,7 @@ fn keeps_the_order_of_documents(rt: HostRuntime) -> Result<(), Fail> {
 }
 
 /// Damages of the store with one item: what stands there, what is put in its place, and the first
-/// fault, its place counted by hand and by `tests/store_faults`.
+/// fault, its place counted by hand and by `tests/compare/store_faults`.
 const DAMAGES: [(&[u8], &[u8], StoreCheck, usize); 44] = [
     (b"version\x01", b"version\x02", Version, 9),
     (

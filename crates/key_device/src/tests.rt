@@ -4,7 +4,7 @@ use crate::*;
 use std::alloc::Global;
 use std::test::Fail;
 
-// What `tests/toy_device_values` writes.
+// What `tests/vectors/toy_device_values` writes.
 const TOY_TAPE: [&[u8]; 10] = [
     b"fresh -> 4294967295 395e5c746e9083b8a8f7367dabf0dce43d1584a1ca5263dcfc9fa9653ad7892e 452becf81aefd77f51d31d2f59e8f5b8b3d810a454c93fbeda56055f77552f3f\n",
     b"fresh -> failed\n",
