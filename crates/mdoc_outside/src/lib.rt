@@ -7,10 +7,12 @@
 mod cabinet;
 mod cabinet_fault;
 mod call_plan;
+mod end;
 mod file_line;
 mod file_lines;
 mod file_store;
 mod folder_cabinet;
+mod fragment;
 mod key_name;
 mod laws;
 mod limit_name;
@@ -33,9 +35,11 @@ mod words;
 
 pub use cabinet::Cabinet;
 pub use cabinet_fault::CabinetFault;
+pub use end::End;
 pub use file_line::FileLine;
 pub use file_lines::FileLines;
 pub use folder_cabinet::FolderCabinet;
+pub use fragment::Fragment;
 pub use key_name::KeyName;
 pub use laws::written_file_is_found;
 pub use limit_name::LimitName;

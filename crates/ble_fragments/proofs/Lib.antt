@@ -1,0 +1,6 @@
+pub mod CutLemmas
+pub mod CutPieces
+pub mod Divisions
+pub mod Feeding
+pub mod Limits
+pub mod OneMore
