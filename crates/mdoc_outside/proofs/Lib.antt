@@ -1,4 +1,3 @@
 mod LineSteps
 mod Splits
 mod WordSteps
-mod Written

@@ -1,5 +1,5 @@
 -- What a plan of failing calls keeps.
-use Rattle.std.specs.Prelude.{◌≡◌, ◌+◌, ◌-◌, ◌^◌, ◌↔◌, ℕ, List, min, Contains, Result, IsErrOf}
+use Rattle.std.specs.Prelude.{◌≡◌, ◌+◌, ◌-◌, ◌^◌, ◌↔◌, ℕ, List, min, Contains, Result, IsErrOf, OnOk}
 use Rattle.mdoc_outside.specs.declared.call_plan.CallPlan.{CallPlan}
 
 -- the numbers of the calls that fail
@@ -21,3 +21,10 @@ IsNextCall call next = next ≡ min (call + 1) (2 ^ 64 - 1)
 -- the call of that number fails exactly where the plan says so
 abbrev pub FailsAsPlanned : {T E : Type 0} → E → List ℕ → ℕ → Result T E → Type 0
 FailsAsPlanned failed fails call result = IsErrOf result failed ↔ Contains fails call
+
+-- A call goes as planned: it fails where the plan says so and nowhere else, and is counted. Where memory was wanting
+-- it isn't.
+pub record GoesAsPlanned {T E : Type 0} (failed memory : E) (planned_calls : List ℕ) (call next : ℕ) (result : Result T E) : Type 0 where
+  pub fails : IsErrOf result failed → Contains planned_calls call × IsNextCall call next
+  pub works : OnOk result ((Contains planned_calls call → ⊥) × IsNextCall call next)
+  pub wanting : IsErrOf result memory → next ≡ call

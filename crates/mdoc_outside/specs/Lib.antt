@@ -1,3 +1,4 @@
+pub mod Cabinet
 pub mod CallPlan
 pub mod Faults
 pub mod FileLine
@@ -11,6 +12,7 @@ pub mod MemorySink
 pub mod OptionSteps
 pub mod ResultSteps
 pub mod Sink
+pub mod State
 pub mod SureCabinet
 pub mod SureSink
 pub mod WordForm

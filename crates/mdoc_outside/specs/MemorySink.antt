@@ -1,20 +1,26 @@
 -- What contracts see of a sink in memory.
-use Rattle.std.specs.Prelude.{ℕ, List}
+use Rattle.std.specs.Prelude.{ℕ, List, Some}
 use Rattle.mdoc_outside.specs.CallPlan.{planned, call_number, fault_count}
+use Rattle.mdoc_outside.specs.State.{State}
 use Rattle.mdoc_outside.specs.declared.memory_sink.MemorySink.{MemorySink}
+use Rattle.mdoc_outside.specs.declared.sink_call.SinkCall.{SinkCall}
 
--- the bytes that it has taken
-abbrev pub taken : MemorySink → List ℕ
-taken sink = sink.bytes.items
-
--- the numbers of its calls that fail, from 0
-abbrev pub failing : MemorySink → List ℕ
-failing sink = planned sink.plan
-
--- the number of its next call
-abbrev pub call : MemorySink → ℕ
-call sink = call_number sink.plan
+-- its calls
+abbrev pub told : MemorySink → List SinkCall
+told sink = sink.log
 
 -- how many of its calls failed
-abbrev pub faulted : MemorySink → ℕ
-faulted sink = fault_count sink.plan
+abbrev pub fault_number : MemorySink → ℕ
+fault_number sink = fault_count sink.plan
+
+-- it tells
+abbrev pub sink_state : MemorySink → State (List SinkCall)
+sink_state sink = record { told = Some (told sink); faults = fault_number sink }
+
+-- the numbers of its calls that fail, from 0
+abbrev pub failing_calls : MemorySink → List ℕ
+failing_calls sink = planned sink.plan
+
+-- the number of its next call
+abbrev pub next_call : MemorySink → ℕ
+next_call sink = call_number sink.plan

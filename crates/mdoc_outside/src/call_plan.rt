@@ -25,6 +25,28 @@ impl CallPlan {
         }
     }
 
+    // Whether the next call fails.
+    pub(crate) fn is_next_failing(&self) -> bool
+        ensures { IsTrue result ↔ Contains (planned self.now) (call_number self.now) }
+    {
+        self.fails.contains(&self.calls)
+    }
+
+    // Counts a call that was made.
+    pub(crate) fn count(&mut self, failed: bool)
+        ensures failing { planned self.new ≡ planned self.old }
+        ensures calls { IsNextCall (call_number self.old) (call_number self.new) }
+        ensures faults { MatchBool failed
+            (Rose (fault_count self.old) (fault_count self.new))
+            (fault_count self.new ≡ fault_count self.old) }
+        ensures later { fault_count self.old ≤ fault_count self.new }
+    {
+        self.calls = self.calls.saturating_add(1);
+        if failed {
+            self.faults = self.faults.saturating_add(1);
+        }
+    }
+
     // Counts the call that begins now, and says whether it fails.
     pub(crate) fn fails_now(&mut self) -> bool
         ensures planned { IsTrue result ↔ Contains (planned self.old) (call_number self.old) }
@@ -35,12 +57,8 @@ impl CallPlan {
             (fault_count self.new ≡ fault_count self.old) }
         ensures later { fault_count self.old ≤ fault_count self.new }
     {
-        let call = self.calls;
-        self.calls = self.calls.saturating_add(1);
-        let fails = self.fails.contains(&call);
-        if fails {
-            self.faults = self.faults.saturating_add(1);
-        }
+        let fails = self.is_next_failing();
+        self.count(fails);
         fails
     }
 }

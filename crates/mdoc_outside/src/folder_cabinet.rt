@@ -55,9 +55,7 @@ fn bytes_at<R: Files + AllocGlobal>(rt: &R, path: &str) -> io::Result<Option<Vec
 }
 
 impl<R: Files + AllocGlobal + Drop> Cabinet for FolderCabinet<R> {
-    ghost files = { λ _. None };
-
-    ghost faults = { λ c. c.faults };
+    ghost state = { λ c. record { told = None; faults = c.faults } };
 
     fn read(&mut self, name: &str) -> Result<Option<Octets>, CabinetFault> {
         match bytes_at(&self.rt, name) {

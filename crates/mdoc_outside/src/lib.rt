@@ -1,16 +1,17 @@
 //! The outside of the mobile driving licence, as the crates above see it: a cabinet of named
 //! files and a sink of bytes, each a trait with forms in memory and a real form, beside the small
-//! types that contracts see as lists. Its one contract: a fault of the outside is answered only
-//! where that object's count of faults rose in that very call, and a refusal leaves what is held.
+//! types that contracts see as lists. Its one contract: an object that tells gains exactly the call that was made,
+//! and a fault of the outside is answered only where that object's count of faults rose in that very call.
 #![tactic(auto)]
 
 mod cabinet;
+mod cabinet_call;
 mod cabinet_fault;
+mod cabinet_log;
 mod call_plan;
 mod end;
 mod file_line;
 mod file_lines;
-mod file_store;
 mod folder_cabinet;
 mod fragment;
 mod key_name;
@@ -25,7 +26,9 @@ mod octets;
 mod out_sink;
 mod rows;
 mod sink;
+mod sink_call;
 mod sink_fault;
+mod sink_log;
 mod sure_cabinet;
 mod sure_sink;
 mod threads;
@@ -34,6 +37,7 @@ mod word_form;
 mod words;
 
 pub use cabinet::Cabinet;
+pub use cabinet_call::CabinetCall;
 pub use cabinet_fault::CabinetFault;
 pub use end::End;
 pub use file_line::FileLine;
@@ -52,6 +56,7 @@ pub use octets::Octets;
 pub use out_sink::OutSink;
 pub use rows::Rows;
 pub use sink::Sink;
+pub use sink_call::SinkCall;
 pub use sink_fault::SinkFault;
 pub use sure_cabinet::SureCabinet;
 pub use sure_sink::SureSink;

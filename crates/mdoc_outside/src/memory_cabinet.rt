@@ -1,73 +1,82 @@
 // A cabinet in memory, some of whose calls fail.
-ghost use Rattle.std.specs.Prelude.{◌≡◌, Some, IfOk};
+ghost use Rattle.std.specs.Prelude.{◌≡◌, []};
 
+use crate::cabinet_log::CabinetLog;
 use crate::call_plan::CallPlan;
-use crate::file_store::FileStore;
-use crate::{Cabinet, CabinetFault, Octets};
+use crate::{Cabinet, CabinetCall, CabinetFault, Octets};
 use std::alloc::Global;
 
-/// Files in memory. The calls with the given numbers, from 0, fail, and tell it.
+/// Files in memory. The calls with the given numbers, from 0, fail. It tells its files and its calls.
 #[derive(Drop)]
 pub struct MemoryCabinet {
-    store: FileStore,
+    log: CabinetLog,
     plan: CallPlan,
 }
 
 impl MemoryCabinet {
-    ghost use Rattle.mdoc_outside.specs.MemoryCabinet.{held, failing, call, faulted};
+    ghost use Rattle.mdoc_outside.specs.MemoryCabinet.{told, failing_calls, next_call, fault_number};
 
     /// A cabinet of files, each a name and its bytes, and the numbers of the calls that fail.
     pub fn new(alloc: Global, files: Vec<(Octets, Octets)>, fails: Vec<u64>) -> MemoryCabinet
-        ensures files { held result ≡ files.items }
-        ensures failing { failing result ≡ fails.items }
-        ensures calls { call result ≡ 0 }
-        ensures faults { faulted result ≡ 0 }
+        ensures told { told result ≡ record { files = files.items; calls = [] } }
+        ensures failing { failing_calls result ≡ fails.items }
+        ensures next { next_call result ≡ 0 }
+        ensures faults { fault_number result ≡ 0 }
     {
         MemoryCabinet {
-            store: FileStore::new(alloc, files),
+            log: CabinetLog::new(alloc, files),
             plan: CallPlan::new(fails),
         }
+    }
+
+    /// The calls that did their work or failed, in order.
+    pub fn calls(&self) -> &[CabinetCall]
+        ensures { result.now ≡ (told self.now).calls }
+    {
+        self.log.calls()
     }
 }
 
 impl Cabinet for MemoryCabinet {
-    ghost use Rattle.mdoc_outside.specs.CallPlan.{FailsAsPlanned, IsNextCall};
-    ghost use Rattle.mdoc_outside.specs.Faults.{HasCause};
-    ghost use Rattle.mdoc_outside.specs.Files.{Reads, Writes};
-    ghost use Rattle.mdoc_outside.specs.MemoryCabinet.{held, failing, call, faulted};
+    ghost use Rattle.mdoc_outside.specs.Cabinet.{Reads, Writes};
+    ghost use Rattle.mdoc_outside.specs.CallPlan.{GoesAsPlanned};
+    ghost use Rattle.mdoc_outside.specs.MemoryCabinet.{cabinet_state, failing_calls, next_call};
     ghost use Rattle.mdoc_outside.specs.declared.cabinet_fault.CabinetFault.TheVariants.{Failed, Memory};
 
-    ghost files = { λ c. Some (held c) };
+    ghost state = { λ c. cabinet_state c };
 
-    ghost faults = { λ c. faulted c };
-
-    // The trait's clauses, and that the calls of the plan fail and no others.
+    // The trait's clause, and that the calls of the plan fail and no others.
     fn read(&mut self, name: &str) -> Result<Option<Octets>, CabinetFault>
-        ensures found { IfOk result (Reads (Some (held self.old)) name.now) }
-        ensures same { held self.new ≡ held self.old }
-        ensures cause { HasCause Failed Memory (faulted self.old) (faulted self.new) result }
-        ensures planned { FailsAsPlanned Failed (failing self.old) (call self.old) result }
-        ensures failing { failing self.new ≡ failing self.old }
-        ensures calls { IsNextCall (call self.old) (call self.new) }
+        ensures read { Reads (cabinet_state self.old) (cabinet_state self.new) name.now result }
+        ensures planned { GoesAsPlanned Failed Memory
+            (failing_calls self.old) (next_call self.old) (next_call self.new) result }
+        ensures failing { failing_calls self.new ≡ failing_calls self.old }
     {
-        if self.plan.fails_now() {
+        if self.plan.is_next_failing() {
+            self.log.fail_read(name)?;
+            self.plan.count(true);
             return Err(CabinetFault::Failed);
         }
-        Ok(self.store.read(name)?)
+        let found = self.log.read(name)?;
+        self.plan.count(false);
+        Ok(found)
     }
 
     // The same of a write.
     fn write(&mut self, name: &str, bytes: &[u8]) -> Result<(), CabinetFault>
-        ensures files { Writes (Some (held self.old)) (Some (held self.new))
+        ensures written { Writes (cabinet_state self.old) (cabinet_state self.new)
             name.now bytes.now result }
-        ensures cause { HasCause Failed Memory (faulted self.old) (faulted self.new) result }
-        ensures planned { FailsAsPlanned Failed (failing self.old) (call self.old) result }
-        ensures failing { failing self.new ≡ failing self.old }
-        ensures calls { IsNextCall (call self.old) (call self.new) }
+        ensures planned { GoesAsPlanned Failed Memory
+            (failing_calls self.old) (next_call self.old) (next_call self.new) result }
+        ensures failing { failing_calls self.new ≡ failing_calls self.old }
     {
-        if self.plan.fails_now() {
+        if self.plan.is_next_failing() {
+            self.log.fail_write(name, bytes)?;
+            self.plan.count(true);
             return Err(CabinetFault::Failed);
         }
-        Ok(self.store.write(name, bytes)?)
+        self.log.write(name, bytes)?;
+        self.plan.count(false);
+        Ok(())
     }
 }

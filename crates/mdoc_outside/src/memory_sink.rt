@@ -1,64 +1,72 @@
 // A sink in memory, some of whose calls fail.
-ghost use Rattle.std.specs.Prelude.{◌≡◌, [], Some};
+ghost use Rattle.std.specs.Prelude.{◌≡◌, [], IfOk};
+ghost use Rattle.mdoc_outside.specs.Sink.{bytes_put};
 
 use crate::call_plan::CallPlan;
-use crate::{Sink, SinkFault};
+use crate::sink_log::SinkLog;
+use crate::{Octets, Sink, SinkCall, SinkFault};
 use std::alloc::Global;
 
-/// Bytes in memory. The calls with the given numbers, from 0, fail, and tell it.
+/// Bytes in memory. The calls with the given numbers, from 0, fail. It tells its calls.
 #[derive(Drop)]
 pub struct MemorySink {
-    bytes: Vec<u8>,
+    log: SinkLog,
     plan: CallPlan,
 }
 
 impl MemorySink {
-    ghost use Rattle.mdoc_outside.specs.MemorySink.{taken, failing, call, faulted};
+    ghost use Rattle.mdoc_outside.specs.MemorySink.{told, failing_calls, next_call, fault_number};
 
     /// A sink that has taken nothing yet, and the numbers of the calls that fail.
     pub fn new(alloc: Global, fails: Vec<u64>) -> MemorySink
-        ensures bytes { taken result ≡ [] }
-        ensures failing { failing result ≡ fails.items }
-        ensures calls { call result ≡ 0 }
-        ensures faults { faulted result ≡ 0 }
+        ensures told { told result ≡ [] }
+        ensures failing { failing_calls result ≡ fails.items }
+        ensures next { next_call result ≡ 0 }
+        ensures faults { fault_number result ≡ 0 }
     {
         MemorySink {
-            bytes: Vec::new(alloc),
+            log: SinkLog::new(alloc),
             plan: CallPlan::new(fails),
         }
     }
 
-    /// The bytes that it has taken.
-    pub fn bytes(&self) -> &[u8]
-        ensures { result.now ≡ taken self.now }
+    /// The calls that did their work or failed, in order.
+    pub fn calls(&self) -> &[SinkCall]
+        ensures { result.now ≡ told self.now }
     {
-        &self.bytes
+        self.log.calls()
+    }
+
+    /// The bytes that it has taken: those of its puts, joined.
+    pub fn bytes(&self) -> Result<Octets, crate::Memory>
+        ensures { IfOk result (λ bytes. bytes ≡ bytes_put (told self.now)) }
+    {
+        self.log.bytes()
     }
 }
 
 impl Sink for MemorySink {
-    ghost use Rattle.mdoc_outside.specs.CallPlan.{FailsAsPlanned, IsNextCall};
-    ghost use Rattle.mdoc_outside.specs.Faults.{HasCause};
-    ghost use Rattle.mdoc_outside.specs.MemorySink.{taken, failing, call, faulted};
+    ghost use Rattle.mdoc_outside.specs.CallPlan.{GoesAsPlanned};
+    ghost use Rattle.mdoc_outside.specs.MemorySink.{sink_state, failing_calls, next_call};
     ghost use Rattle.mdoc_outside.specs.Sink.{Puts};
     ghost use Rattle.mdoc_outside.specs.declared.sink_fault.SinkFault.TheVariants.{Failed, Memory};
 
-    ghost put_so_far = { λ s. Some (taken s) };
+    ghost state = { λ s. sink_state s };
 
-    ghost faults = { λ s. faulted s };
-
-    // The trait's clauses, and that the calls of the plan fail and no others.
+    // The trait's clause, and that the calls of the plan fail and no others.
     fn put(&mut self, bytes: &[u8]) -> Result<(), SinkFault>
-        ensures bytes { Puts (Some (taken self.old)) (Some (taken self.new)) bytes.now result }
-        ensures cause { HasCause Failed Memory (faulted self.old) (faulted self.new) result }
-        ensures planned { FailsAsPlanned Failed (failing self.old) (call self.old) result }
-        ensures failing { failing self.new ≡ failing self.old }
-        ensures calls { IsNextCall (call self.old) (call self.new) }
+        ensures put { Puts (sink_state self.old) (sink_state self.new) bytes.now result }
+        ensures planned { GoesAsPlanned Failed Memory
+            (failing_calls self.old) (next_call self.old) (next_call self.new) result }
+        ensures failing { failing_calls self.new ≡ failing_calls self.old }
     {
-        if self.plan.fails_now() {
+        if self.plan.is_next_failing() {
+            self.log.fail_put(bytes)?;
+            self.plan.count(true);
             return Err(SinkFault::Failed);
         }
-        self.bytes.extend_from_slice(bytes)?;
+        self.log.put(bytes)?;
+        self.plan.count(false);
         Ok(())
     }
 }

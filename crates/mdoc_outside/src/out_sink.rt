@@ -19,9 +19,7 @@ impl<P: Print + Drop> OutSink<P> {
 }
 
 impl<P: Print + Drop> Sink for OutSink<P> {
-    ghost put_so_far = { λ _. None };
-
-    ghost faults = { λ s. s.faults };
+    ghost state = { λ s. record { told = None; faults = s.faults } };
 
     fn put(&mut self, bytes: &[u8]) -> Result<(), SinkFault> {
         match io::writer(&self.rt).write_all(bytes) {

@@ -1,44 +1,50 @@
 // A sink in memory that never fails.
-ghost use Rattle.std.specs.Prelude.{◌≡◌, [], Some};
+ghost use Rattle.std.specs.Prelude.{◌≡◌, [], IfOk};
+ghost use Rattle.mdoc_outside.specs.Sink.{bytes_put};
 
-use crate::{Sink, SinkFault};
+use crate::sink_log::SinkLog;
+use crate::{Memory, Octets, Sink, SinkCall, SinkFault};
 use std::alloc::Global;
 
-/// Bytes in memory. No call fails but for want of memory.
+/// Bytes in memory. No call fails but for want of memory. It tells its calls.
 #[derive(Drop)]
 pub struct SureSink {
-    bytes: Vec<u8>,
+    log: SinkLog,
 }
 
 impl SureSink {
-    ghost use Rattle.mdoc_outside.specs.SureSink.{taken};
+    ghost use Rattle.mdoc_outside.specs.SureSink.{told};
 
     /// A sink that has taken nothing yet.
     pub fn new(alloc: Global) -> SureSink
-        ensures { taken result ≡ [] }
+        ensures { told result ≡ [] }
     {
         SureSink {
-            bytes: Vec::new(alloc),
+            log: SinkLog::new(alloc),
         }
     }
 
-    /// The bytes that it has taken.
-    pub fn bytes(&self) -> &[u8]
-        ensures { result.now ≡ taken self.now }
+    /// The calls that did their work, in order.
+    pub fn calls(&self) -> &[SinkCall]
+        ensures { result.now ≡ told self.now }
     {
-        &self.bytes
+        self.log.calls()
+    }
+
+    /// The bytes that it has taken: those of its puts, joined.
+    pub fn bytes(&self) -> Result<Octets, Memory>
+        ensures { IfOk result (λ bytes. bytes ≡ bytes_put (told self.now)) }
+    {
+        self.log.bytes()
     }
 }
 
 impl Sink for SureSink {
-    ghost use Rattle.mdoc_outside.specs.SureSink.{taken};
+    ghost use Rattle.mdoc_outside.specs.SureSink.{sink_state};
 
-    ghost put_so_far = { λ s. Some (taken s) };
-
-    ghost faults = { λ _. 0 };
+    ghost state = { λ s. sink_state s };
 
     fn put(&mut self, bytes: &[u8]) -> Result<(), SinkFault> {
-        self.bytes.extend_from_slice(bytes)?;
-        Ok(())
+        Ok(self.log.put(bytes)?)
     }
 }

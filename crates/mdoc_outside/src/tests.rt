@@ -141,6 +141,27 @@ fn make_steps<C: Cabinet>(
     Ok(())
 }
 
+// The calls of a cabinet, each as a letter (`r` and `w`, in upper case where it failed), the name, what was found or
+// written, as above, and a bar.
+fn shown_calls(alloc: Global, calls: &[CabinetCall]) -> Result<Vec<u8>, Fail> {
+    let mut shown = Vec::new(alloc);
+    for call in calls {
+        let (letter, name, bytes): (u8, &[u8], &[u8]) = match call {
+            CabinetCall::Read(name, Some(bytes)) => (b'r', name.as_slice(), bytes.as_slice()),
+            CabinetCall::Read(name, None) => (b'r', name.as_slice(), b"-"),
+            CabinetCall::ReadFailed(name) => (b'R', name.as_slice(), b""),
+            CabinetCall::Write(name, bytes) => (b'w', name.as_slice(), bytes.as_slice()),
+            CabinetCall::WriteFailed(name, bytes) => (b'W', name.as_slice(), bytes.as_slice()),
+        };
+        shown.push(letter)?;
+        shown.extend_from_slice(name)?;
+        shown.push(b' ')?;
+        shown.extend_from_slice(bytes)?;
+        shown.push(b'|')?;
+    }
+    Ok(shown)
+}
+
 #[test]
 fn cabinets_in_memory_read_what_was_written(rt: HostRuntime) -> Result<(), Fail> {
     let alloc = rt.alloc();
@@ -158,18 +179,22 @@ fn cabinets_in_memory_read_what_was_written(rt: HostRuntime) -> Result<(), Fail>
     ];
     let mut cabinet = MemoryCabinet::new(alloc, files, vec![in alloc; 0, 1, 2]?);
     make_steps(&rt, alloc, &mut cabinet, &steps)?;
+    assert_eq!(rt;
+        shown_calls(alloc, cabinet.calls())?.as_slice(),
+        b"Ra |Wb 2|Rb |rb -|ra 1|rab |wa 3|ra 3|rab |".as_slice()
+    );
     let steps = [
         Step("a", None, b"-"),
         Step("a", Some(b"4"), b"="),
         Step("b", Some(b"5"), b"="),
         Step("a", None, b"4"),
     ];
-    make_steps(
-        &rt,
-        alloc,
-        &mut SureCabinet::new(alloc, Vec::new(alloc)),
-        &steps,
-    )?;
+    let mut sure = SureCabinet::new(alloc, Vec::new(alloc));
+    make_steps(&rt, alloc, &mut sure, &steps)?;
+    assert_eq!(rt;
+        shown_calls(alloc, sure.calls())?.as_slice(),
+        b"ra -|wa 4|wb 5|ra 4|".as_slice()
+    );
     Ok(())
 }
 
@@ -184,6 +209,23 @@ fn failures<S: Sink>(sink: &mut S, pieces: &[&[u8]]) -> u64 {
     failed
 }
 
+// The puts of a sink, each with a bar behind it; one that failed is in brackets.
+fn shown_puts(alloc: Global, calls: &[SinkCall]) -> Result<Vec<u8>, Fail> {
+    let mut shown = Vec::new(alloc);
+    for call in calls {
+        match call {
+            SinkCall::Put(bytes) => shown.extend_from_slice(bytes.as_slice())?,
+            SinkCall::PutFailed(bytes) => {
+                shown.push(b'(')?;
+                shown.extend_from_slice(bytes.as_slice())?;
+                shown.push(b')')?;
+            }
+        }
+        shown.push(b'|')?;
+    }
+    Ok(shown)
+}
+
 #[test]
 fn sinks_in_memory_keep_what_was_put(rt: HostRuntime) -> Result<(), Fail> {
     let alloc = rt.alloc();
@@ -192,10 +234,18 @@ fn sinks_in_memory_keep_what_was_put(rt: HostRuntime) -> Result<(), Fail> {
         failures(&mut sink, &[b"a", b"b", b"c", b"d", b"", b"ef"]),
         3
     );
-    assert_eq!(rt; sink.bytes(), b"def".as_slice());
+    assert_eq!(rt; sink.bytes()?.as_slice(), b"def".as_slice());
+    assert_eq!(rt;
+        shown_puts(alloc, sink.calls())?.as_slice(),
+        b"(a)|(b)|(c)|d||ef|".as_slice()
+    );
     let mut sure = SureSink::new(alloc);
     assert_eq!(rt; failures(&mut sure, &[b"a", b"b"]), 0);
-    assert_eq!(rt; sure.bytes(), b"ab".as_slice());
+    assert_eq!(rt; sure.bytes()?.as_slice(), b"ab".as_slice());
+    assert_eq!(rt;
+        shown_puts(alloc, sure.calls())?.as_slice(),
+        b"a|b|".as_slice()
+    );
     Ok(())
 }
 
