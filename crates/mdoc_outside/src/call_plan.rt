@@ -1,6 +1,6 @@
 // Which calls of an object in memory fail.
 ghost use Rattle.std.specs.Prelude.{◌≡◌, ◌≤◌, ◌↔◌, IsTrue, Contains, MatchBool};
-ghost use Rattle.mdoc_outside.specs.Faults.{Rose};
+ghost use Rattle.mdoc_outside.specs.Faults.{one_more};
 
 // The numbers of the calls that fail, from 0, with how many calls were made and how many failed.
 #[derive(Drop)]
@@ -31,7 +31,7 @@ impl CallPlan {
         ensures failing { planned self.new ≡ planned self.old }
         ensures calls { IsNextCall (call_number self.old) (call_number self.new) }
         ensures faults { MatchBool result
-            (Rose (fault_count self.old) (fault_count self.new))
+            (fault_count self.new ≡ one_more (fault_count self.old))
             (fault_count self.new ≡ fault_count self.old) }
         ensures later { fault_count self.old ≤ fault_count self.new }
     {
@@ -39,8 +39,18 @@ impl CallPlan {
         self.calls = self.calls.saturating_add(1);
         let fails = self.fails.contains(&call);
         if fails {
-            self.faults = self.faults.saturating_add(1);
+            self.count_fault();
         }
         fails
+    }
+
+    // Counts one more failure.
+    pub(crate) fn count_fault(&mut self)
+        ensures failing { planned self.new ≡ planned self.old }
+        ensures calls { call_number self.new ≡ call_number self.old }
+        ensures faults { fault_count self.new ≡ one_more (fault_count self.old) }
+        ensures later { fault_count self.old ≤ fault_count self.new }
+    {
+        self.faults = self.faults.saturating_add(1);
     }
 }

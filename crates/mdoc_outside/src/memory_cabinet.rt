@@ -32,7 +32,7 @@ impl MemoryCabinet {
 
 impl Cabinet for MemoryCabinet {
     ghost use Rattle.mdoc_outside.specs.CallPlan.{FailsAsPlanned, IsNextCall};
-    ghost use Rattle.mdoc_outside.specs.Faults.{HasCause};
+    ghost use Rattle.mdoc_outside.specs.Faults.{HasCause, CountsOne};
     ghost use Rattle.mdoc_outside.specs.Files.{Reads, Writes};
     ghost use Rattle.mdoc_outside.specs.MemoryCabinet.{held, failing, call, faulted};
     ghost use Rattle.mdoc_outside.specs.declared.cabinet_fault.CabinetFault.TheVariants.{Failed, Memory};
@@ -46,6 +46,7 @@ impl Cabinet for MemoryCabinet {
         ensures found { IfOk result (Reads (Some (held self.old)) name.now) }
         ensures same { held self.new ≡ held self.old }
         ensures cause { HasCause Failed Memory (faulted self.old) (faulted self.new) result }
+        ensures counts { CountsOne Failed (faulted self.old) (faulted self.new) result }
         ensures planned { FailsAsPlanned Failed (failing self.old) (call self.old) result }
         ensures failing { failing self.new ≡ failing self.old }
         ensures calls { IsNextCall (call self.old) (call self.new) }
@@ -61,6 +62,7 @@ impl Cabinet for MemoryCabinet {
         ensures files { Writes (Some (held self.old)) (Some (held self.new))
             name.now bytes.now result }
         ensures cause { HasCause Failed Memory (faulted self.old) (faulted self.new) result }
+        ensures counts { CountsOne Failed (faulted self.old) (faulted self.new) result }
         ensures planned { FailsAsPlanned Failed (failing self.old) (call self.old) result }
         ensures failing { failing self.new ≡ failing self.old }
         ensures calls { IsNextCall (call self.old) (call self.new) }

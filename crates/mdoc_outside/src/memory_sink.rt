@@ -38,7 +38,7 @@ impl MemorySink {
 
 impl Sink for MemorySink {
     ghost use Rattle.mdoc_outside.specs.CallPlan.{FailsAsPlanned, IsNextCall};
-    ghost use Rattle.mdoc_outside.specs.Faults.{HasCause};
+    ghost use Rattle.mdoc_outside.specs.Faults.{HasCause, CountsOne};
     ghost use Rattle.mdoc_outside.specs.MemorySink.{taken, failing, call, faulted};
     ghost use Rattle.mdoc_outside.specs.Sink.{Puts};
     ghost use Rattle.mdoc_outside.specs.declared.sink_fault.SinkFault.TheVariants.{Failed, Memory};
@@ -51,6 +51,7 @@ impl Sink for MemorySink {
     fn put(&mut self, bytes: &[u8]) -> Result<(), SinkFault>
         ensures bytes { Puts (Some (taken self.old)) (Some (taken self.new)) bytes.now result }
         ensures cause { HasCause Failed Memory (faulted self.old) (faulted self.new) result }
+        ensures counts { CountsOne Failed (faulted self.old) (faulted self.new) result }
         ensures planned { FailsAsPlanned Failed (failing self.old) (call self.old) result }
         ensures failing { failing self.new ≡ failing self.old }
         ensures calls { IsNextCall (call self.old) (call self.new) }

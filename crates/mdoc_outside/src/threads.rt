@@ -1,12 +1,13 @@
 // The owned types between threads.
-use crate::{Octets, Rows, Word};
+use crate::{CountDice, Dealt, ListDice, Octets, Rows, Word};
 
 fn is_send<T: Send>() {}
 
 fn is_sync<T: Sync>() {}
 
-/// Holds no work: that it compiles shows that `Octets`, `Word` and `Rows` of such items may move
-/// to another thread and be shared between threads.
+/// Holds no work: that it compiles shows that `Octets`, `Word`, `Rows` of such items, the dice in
+/// memory and a dice that keeps the words of such a one may move to another thread and be shared
+/// between threads.
 pub fn owned_types_cross_threads<T: Send + Sync>() {
     is_send::<Octets>();
     is_sync::<Octets>();
@@ -14,4 +15,10 @@ pub fn owned_types_cross_threads<T: Send + Sync>() {
     is_sync::<Word>();
     is_send::<Rows<T>>();
     is_sync::<Rows<T>>();
+    is_send::<ListDice>();
+    is_sync::<ListDice>();
+    is_send::<CountDice>();
+    is_sync::<CountDice>();
+    is_send::<Dealt<T>>();
+    is_sync::<Dealt<T>>();
 }
