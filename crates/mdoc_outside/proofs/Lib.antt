@@ -1,3 +1,5 @@
+mod DiceLaws
+pub mod GaveWordsLemmas
 mod LineSteps
 mod Splits
 mod WordSteps

@@ -5,6 +5,16 @@ use Rattle.std.specs.Prelude.{◌≡◌, ◌≤◌, ◌+◌, ◌-◌, ◌^◌, �
 abbrev pub Rose : ℕ → ℕ → Type 0
 Rose before now = min (before + 1) (2 ^ 64 - 1) ≤ now
 
+-- A count after one more fault, at most its last value.
+abbrev pub one_more : ℕ → ℕ
+one_more count = min (count + 1) (2 ^ 64 - 1)
+
+-- The count of an object in memory: a call that answers `failed` raises it by exactly one, and each
+-- other call leaves it.
+pub record CountsOne {T E : Type 0} (failed : E) (before now : ℕ) (result : Result T E) : Type 0 where
+  pub rose : IsErrOf result failed → now ≡ one_more before
+  pub same : (IsErrOf result failed → ⊥) → now ≡ before
+
 -- What a call's answer says of the count of faults before and after it.
 pub record HasCause {T E : Type 0} (failed memory : E) (before now : ℕ) (result : Result T E)
     : Type 0 where

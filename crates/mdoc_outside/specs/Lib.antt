@@ -1,12 +1,16 @@
 pub mod Cabinet
 pub mod CallPlan
+pub mod CountDice
+pub mod Dealt
 pub mod Faults
 pub mod FileLine
 pub mod FileLines
 pub mod Files
+pub mod GaveWords
 pub mod KeyName
 pub mod LimitName
 pub mod Lines
+pub mod ListDice
 pub mod MemoryCabinet
 pub mod MemorySink
 pub mod OptionSteps

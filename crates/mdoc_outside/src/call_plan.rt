@@ -1,6 +1,6 @@
 // Which calls of an object in memory fail.
 ghost use Rattle.std.specs.Prelude.{◌≡◌, ◌≤◌, ◌↔◌, IsTrue, Contains, MatchBool};
-ghost use Rattle.mdoc_outside.specs.Faults.{Rose};
+ghost use Rattle.mdoc_outside.specs.Faults.{one_more};
 
 // The numbers of the calls that fail, from 0, with how many calls were made and how many failed.
 #[derive(Drop)]
@@ -37,14 +37,24 @@ impl CallPlan {
         ensures failing { planned self.new ≡ planned self.old }
         ensures calls { IsNextCall (call_number self.old) (call_number self.new) }
         ensures faults { MatchBool failed
-            (Rose (fault_count self.old) (fault_count self.new))
+            (fault_count self.new ≡ one_more (fault_count self.old))
             (fault_count self.new ≡ fault_count self.old) }
         ensures later { fault_count self.old ≤ fault_count self.new }
     {
         self.calls = self.calls.saturating_add(1);
         if failed {
-            self.faults = self.faults.saturating_add(1);
+            self.count_fault();
         }
+    }
+
+    // Counts one more failure.
+    pub(crate) fn count_fault(&mut self)
+        ensures failing { planned self.new ≡ planned self.old }
+        ensures calls { call_number self.new ≡ call_number self.old }
+        ensures faults { fault_count self.new ≡ one_more (fault_count self.old) }
+        ensures later { fault_count self.old ≤ fault_count self.new }
+    {
+        self.faults = self.faults.saturating_add(1);
     }
 
     // Counts the call that begins now, and says whether it fails.
@@ -53,7 +63,7 @@ impl CallPlan {
         ensures failing { planned self.new ≡ planned self.old }
         ensures calls { IsNextCall (call_number self.old) (call_number self.new) }
         ensures faults { MatchBool result
-            (Rose (fault_count self.old) (fault_count self.new))
+            (fault_count self.new ≡ one_more (fault_count self.old))
             (fault_count self.new ≡ fault_count self.old) }
         ensures later { fault_count self.old ≤ fault_count self.new }
     {

@@ -40,6 +40,7 @@ impl MemoryCabinet {
 impl Cabinet for MemoryCabinet {
     ghost use Rattle.mdoc_outside.specs.Cabinet.{Reads, Writes};
     ghost use Rattle.mdoc_outside.specs.CallPlan.{GoesAsPlanned};
+    ghost use Rattle.mdoc_outside.specs.Faults.{CountsOne};
     ghost use Rattle.mdoc_outside.specs.MemoryCabinet.{cabinet_state, failing_calls, next_call};
     ghost use Rattle.mdoc_outside.specs.declared.cabinet_fault.CabinetFault.TheVariants.{Failed, Memory};
 
@@ -50,6 +51,7 @@ impl Cabinet for MemoryCabinet {
         ensures read { Reads (cabinet_state self.old) (cabinet_state self.new) name.now result }
         ensures planned { GoesAsPlanned Failed Memory
             (failing_calls self.old) (next_call self.old) (next_call self.new) result }
+        ensures counts { CountsOne Failed (cabinet_state self.old).faults (cabinet_state self.new).faults result }
         ensures failing { failing_calls self.new ≡ failing_calls self.old }
     {
         if self.plan.is_next_failing() {
@@ -68,6 +70,7 @@ impl Cabinet for MemoryCabinet {
             name.now bytes.now result }
         ensures planned { GoesAsPlanned Failed Memory
             (failing_calls self.old) (next_call self.old) (next_call self.new) result }
+        ensures counts { CountsOne Failed (cabinet_state self.old).faults (cabinet_state self.new).faults result }
         ensures failing { failing_calls self.new ≡ failing_calls self.old }
     {
         if self.plan.is_next_failing() {

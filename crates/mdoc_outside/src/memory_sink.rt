@@ -47,6 +47,7 @@ impl MemorySink {
 
 impl Sink for MemorySink {
     ghost use Rattle.mdoc_outside.specs.CallPlan.{GoesAsPlanned};
+    ghost use Rattle.mdoc_outside.specs.Faults.{CountsOne};
     ghost use Rattle.mdoc_outside.specs.MemorySink.{sink_state, failing_calls, next_call};
     ghost use Rattle.mdoc_outside.specs.Sink.{Puts};
     ghost use Rattle.mdoc_outside.specs.declared.sink_fault.SinkFault.TheVariants.{Failed, Memory};
@@ -58,6 +59,7 @@ impl Sink for MemorySink {
         ensures put { Puts (sink_state self.old) (sink_state self.new) bytes.now result }
         ensures planned { GoesAsPlanned Failed Memory
             (failing_calls self.old) (next_call self.old) (next_call self.new) result }
+        ensures counts { CountsOne Failed (sink_state self.old).faults (sink_state self.new).faults result }
         ensures failing { failing_calls self.new ≡ failing_calls self.old }
     {
         if self.plan.is_next_failing() {
