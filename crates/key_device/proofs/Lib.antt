@@ -1,3 +1,10 @@
+pub mod AllPlanLemmas
+pub mod AllPlanStepLemmas
+mod GaveFormLemmas
+pub mod GaveLemmas
+mod OverLemmas
+mod PartsLemmas
+pub mod PlanEquations
 pub mod PlanLemmas
 pub mod PlanStepLemmas
 mod SameAsk

@@ -1,5 +1,8 @@
 pub mod Asking
+pub mod Gave
+pub mod GaveForms
 pub mod Plan
+pub mod PlanLaws
 pub mod PlanSteps
 pub mod Question
 pub mod Recording

@@ -1,6 +1,7 @@
 -- A tape: a list of exchanges with a key device, from which questions are answered in order.
-use Rattle.std.specs.Prelude.{◌==◌, ◌&&◌, List, [], ◌∷◌, Bool, true, false, if◌then◌else◌}
+use Rattle.std.specs.Prelude.{ℕ, ◌==◌, ◌&&◌, List, [], ◌∷◌, Bool, true, false, if◌then◌else◌}
 use Rattle.std.specs.Str.{bytes_eq}
+use Rattle.mdoc_outside.specs.Faults.{one_more}
 use Rattle.key_device.specs.declared.ask.Ask.{Ask}
 use Rattle.key_device.specs.declared.ask.Ask.TheVariants.{Fresh, Agree, Sign, Verify}
 use Rattle.key_device.specs.declared.exchange.Exchange.{Exchange}
@@ -45,6 +46,10 @@ tape_after tape ask = if is_next tape ask then behind_front tape else tape
 abbrev pub is_failed : Told → Bool
 is_failed tells.Failed = true
 is_failed told = false
+
+-- a count of faults behind what was told: one more where that is that the device failed
+abbrev pub count_after : Told → ℕ → ℕ
+count_after told count = if is_failed told then one_more count else count
 
 -- whether that may be told in answer to a question
 abbrev pub is_answer : Ask → Told → Bool

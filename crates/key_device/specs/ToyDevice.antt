@@ -1,6 +1,7 @@
 -- What the toy device tells.
 use Rattle.std.specs.Prelude.{◌≡◌, ℕ, ◌+◌, ◌^◌, Option, Some, None, nat_lt, if◌then◌else◌}
 use Rattle.std.specs.Str.{bytes_eq}
+use Rattle.key_device.specs.Tape.{count_after}
 use Rattle.key_device.specs.Toy.{is_refused, toy_point, toy_secret, toy_signature}
 use Rattle.key_device.specs.declared.ask.Ask.{Ask}
 use Rattle.key_device.specs.declared.ask.Ask.TheVariants.{Fresh, Agree, Sign, Verify}
@@ -55,3 +56,4 @@ pub record ToyGives (before : ToyDevice) (ask : Ask) (told : Told) (after : ToyD
   pub next : next_key after ≡ toy_next before ask
   pub seed : seed_of after ≡ seed_of before
   pub owner : owner_of after ≡ owner_of before
+  pub counts : faults_of after ≡ count_after told (faults_of before)

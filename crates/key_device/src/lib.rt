@@ -8,6 +8,7 @@
 mod ask;
 mod device_fault;
 mod exchange;
+mod gave_laws;
 mod has_line;
 mod key_device;
 mod laws;
@@ -29,8 +30,14 @@ mod toy_formulas;
 pub use ask::Ask;
 pub use device_fault::DeviceFault;
 pub use exchange::Exchange;
+pub use gave_laws::{
+    failures_told_are_counted, followed_plan_over_what_was_left, own_devices_give_as_they_say,
+};
 pub use key_device::KeyDevice;
-pub use laws::{followed_plan_over_its_talk, written_tape_is_read};
+pub use laws::{
+    followed_plan_has_one_outcome, followed_plan_over_its_sources, followed_plan_over_its_talk,
+    plans_are_followed_in_parts, steps_go_on_at_the_end, written_tape_is_read,
+};
 pub use made::Made;
 pub use point::Point;
 pub use recorder::Recorder;

@@ -56,7 +56,12 @@ impl<D> Recorder<D> {
 }
 
 impl<D: KeyDevice> KeyDevice for Recorder<D> {
+    ghost use Rattle.mdoc_outside.specs.Faults.{HasCause};
+    ghost use Rattle.key_device.specs.Asking.{Meets, told_by_fresh, told_by_agree, told_by_sign, told_by_verify};
+    ghost use Rattle.key_device.specs.Gave.{Gave};
     ghost use Rattle.key_device.specs.Recording.{inner, Records, IsSameTalk};
+    ghost use Rattle.key_device.specs.declared.ask.Ask.TheVariants as asks;
+    ghost use Rattle.key_device.specs.declared.device_fault.DeviceFault.TheVariants as faults;
 
     ghost gives = { Records D.gives };
 
@@ -64,7 +69,15 @@ impl<D: KeyDevice> KeyDevice for Recorder<D> {
 
     ghost faults = { λ r. D.faults (inner r) };
 
-    fn fresh(&mut self) -> Result<Made, DeviceFault> {
+    // The trait's clauses, and that the device that was wrapped gave what was told.
+    #[tactic(auto, using(crate::proofs::GaveLemmas::leaf_exits))]
+    fn fresh(&mut self) -> Result<Made, DeviceFault>
+        ensures gives { Meets (Records D.gives) (IsSameTalk D.unasked) self.old (asks.Fresh)
+            (told_by_fresh result) self.new }
+        ensures cause { HasCause faults.Failed faults.Memory (D.faults (inner self.old))
+            (D.faults (inner self.new)) result }
+        ensures gave { Gave D.gives D.unasked D.faults self.old self.new }
+    {
         self.talk.reserve(1)?;
         let answer = self.device.fresh();
         let told = match answer {
@@ -79,7 +92,14 @@ impl<D: KeyDevice> KeyDevice for Recorder<D> {
         answer
     }
 
-    fn agree(&mut self, key: u32, peer: &Point) -> Result<Option<[u8; 32]>, DeviceFault> {
+    #[tactic(auto, using(crate::proofs::GaveLemmas::leaf_exits))]
+    fn agree(&mut self, key: u32, peer: &Point) -> Result<Option<[u8; 32]>, DeviceFault>
+        ensures gives { Meets (Records D.gives) (IsSameTalk D.unasked) self.old (asks.Agree key peer.now)
+            (told_by_agree result) self.new }
+        ensures cause { HasCause faults.Failed faults.Memory (D.faults (inner self.old))
+            (D.faults (inner self.new)) result }
+        ensures gave { Gave D.gives D.unasked D.faults self.old self.new }
+    {
         self.talk.reserve(1)?;
         let answer = self.device.agree(key, peer);
         let told = match answer {
@@ -95,7 +115,14 @@ impl<D: KeyDevice> KeyDevice for Recorder<D> {
         answer
     }
 
-    fn sign(&mut self, key: u32, message: &[u8]) -> Result<[u8; 64], DeviceFault> {
+    #[tactic(auto, using(crate::proofs::GaveLemmas::leaf_exits))]
+    fn sign(&mut self, key: u32, message: &[u8]) -> Result<[u8; 64], DeviceFault>
+        ensures gives { Meets (Records D.gives) (IsSameTalk D.unasked) self.old (asks.Sign key message.now)
+            (told_by_sign result) self.new }
+        ensures cause { HasCause faults.Failed faults.Memory (D.faults (inner self.old))
+            (D.faults (inner self.new)) result }
+        ensures gave { Gave D.gives D.unasked D.faults self.old self.new }
+    {
         self.talk.reserve(1)?;
         let kept = Octets::copy_of(self.alloc, message)?;
         let answer = self.device.sign(key, message);
@@ -111,12 +138,19 @@ impl<D: KeyDevice> KeyDevice for Recorder<D> {
         answer
     }
 
+    #[tactic(auto, using(crate::proofs::GaveLemmas::leaf_exits))]
     fn verify(
         &mut self,
         public: &Point,
         message: &[u8],
         signature: &[u8; 64],
-    ) -> Result<bool, DeviceFault> {
+    ) -> Result<bool, DeviceFault>
+        ensures gives { Meets (Records D.gives) (IsSameTalk D.unasked) self.old (asks.Verify public.now message.now signature.now)
+            (told_by_verify result) self.new }
+        ensures cause { HasCause faults.Failed faults.Memory (D.faults (inner self.old))
+            (D.faults (inner self.new)) result }
+        ensures gave { Gave D.gives D.unasked D.faults self.old self.new }
+    {
         self.talk.reserve(1)?;
         let kept = Octets::copy_of(self.alloc, message)?;
         let answer = self.device.verify(public, message, signature);

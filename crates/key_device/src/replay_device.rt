@@ -20,12 +20,11 @@ pub struct ReplayDevice {
 }
 
 impl ReplayDevice {
-    ghost use Rattle.std.specs.Prelude.{◌≤◌, MatchBool, MatchResult, IfOk};
-    ghost use Rattle.mdoc_outside.specs.Faults.{Rose};
+    ghost use Rattle.std.specs.Prelude.{◌≤◌, MatchResult, IfOk};
     ghost use Rattle.key_device.specs.Question.{asked};
     ghost use Rattle.key_device.specs.ReplayDevice.{tape_left, fault_count};
     ghost use Rattle.key_device.specs.TapeFile.{tape_of, Refuses};
-    ghost use Rattle.key_device.specs.Tape.{answer_of, tape_after, is_answer, is_failed, is_next, front_told, behind_front};
+    ghost use Rattle.key_device.specs.Tape.{answer_of, tape_after, is_answer, count_after, is_next, front_told, behind_front};
 
     /// A device at the front of the tape that a tape file says. It refuses exactly a file with a
     /// line outside the grammar, by the number of the first such line.
@@ -68,9 +67,7 @@ impl ReplayDevice {
         ensures told { result ≡ answer_of (tape_left self.old) (asked question.now) }
         ensures left { tape_left self.new ≡ tape_after (tape_left self.old) (asked question.now) }
         ensures answer { is_answer (asked question.now) result ≡ true }
-        ensures faults { MatchBool (is_failed result)
-            (Rose (fault_count self.old) (fault_count self.new))
-            (fault_count self.new ≡ fault_count self.old) }
+        ensures faults { fault_count self.new ≡ count_after result (fault_count self.old) }
         ensures later { fault_count self.old ≤ fault_count self.new }
     {
         let told = if self.is_next(question) {

@@ -204,5 +204,12 @@ fn tapes_are_read_strictly(rt: HostRuntime) -> Result<(), Fail> {
 fn devices_cross_threads() {
     crosses::<ToyDevice>();
     followed_plan_over_its_talk::<u8>();
+    followed_plan_over_its_sources::<u8>();
+    followed_plan_has_one_outcome::<u8>();
+    plans_are_followed_in_parts::<u8, u32>();
+    steps_go_on_at_the_end::<u8, u32>();
+    failures_told_are_counted::<ToyDevice>();
+    followed_plan_over_what_was_left::<u8>();
+    own_devices_give_as_they_say();
     written_tape_is_read();
 }

@@ -1,4 +1,4 @@
-mod DiceLaws
+pub mod DiceLaws
 pub mod GaveWordsLemmas
 mod LineSteps
 mod Splits
