@@ -12,7 +12,7 @@ use Rattle.key_device.specs.Recording.{exchange}
 use Rattle.key_device.specs.Tape.{is_answer}
 use Rattle.key_device.specs.TapeLine.{exchange_of, line_exchange, told_of_agree, told_of_sign, told_of_verify}
 use Rattle.key_device.specs.TapeText.{line_text, told_text, message_text}
-use Rattle.key_device.specs.WrittenTape.{IsSized, IsPoint, IsAsked, IsTold, HasLine}
+use Rattle.key_device.specs.HasLine.{IsSized, IsPoint, IsAsked, IsTold, HasLine}
 use Rattle.hex.specs.Hex.{IsBytes}
 use Rattle.key_device.specs.declared.ask.Ask.{Ask}
 use Rattle.key_device.specs.declared.ask.Ask.TheVariants.{Fresh, Agree, Sign, Verify}

@@ -1,16 +1,15 @@
 -- The tape file that is written for exchanges is read as these.
-use Rattle.std.proofs.Common.{◌≡◌, ◌==◌, ◌+◌, ℕ, zero, suc, drop, Bool, List, [], ◌∷◌, true, false, not, Ok, All, codes, refl, sym, ◌∙◌, ap, append_assoc}
-use Rattle.std.proofs.lemmas.Bool.{and_parts}
-use Rattle.std.proofs.lemmas.List.Elements.{All-head, All-tail}
+use Rattle.std.proofs.Common.{◌≡◌, ◌==◌, ◌+◌, ◌++◌, ℕ, zero, suc, drop, Bool, List, [], ◌∷◌, true, false, not, Ok, All, codes, refl, sym, ◌∙◌, ap, append_assoc, arith}
+use Rattle.std.proofs.lemmas.List.Elements.{All-head, All-tail, All-append}
 use Rattle.std.proofs.lemmas.List.Splits.{slice_split_at}
 use Rattle.std.proofs.lemmas.List.Sums.{AllPass-from_list_all}
-use Rattle.std.specs.List.{list_all}
 use Rattle.key_device.proofs.SameAsk.{ask_itself}
 use Rattle.key_device.proofs.TapeFileLemmas.{with_front, with_front-nil, read_on}
 use Rattle.key_device.proofs.WrittenLines.{is_in_line, line_read, line_whole}
 use Rattle.key_device.specs.TapeFile.{exchanges_of, tape_parts}
 use Rattle.key_device.specs.TapeText.{line_text, tape_text}
-use Rattle.key_device.specs.WrittenTape.{HasLine, IsReadAsWritten, AnswersAsTold}
+use Rattle.key_device.specs.HasLine.{HasLine}
+use Rattle.key_device.specs.WrittenTape.{IsReadAsWritten, AnswersAsTold}
 use Rattle.key_device.specs.declared.exchange.Exchange.{Exchange}
 use Rattle.key_device.specs.declared.told.Told.{Told}
 
@@ -37,10 +36,18 @@ tape_read n (e ∷ es) lines =
 pub is_read_as_written : IsReadAsWritten
 is_read_as_written es lines = tape_read 1 es lines
 
-pub all_behind : (p : Exchange → Bool) (n : ℕ) (es : List Exchange) → list_all p es ≡ true → list_all p (drop n es) ≡ true
-all_behind p zero es all = all
-all_behind p (suc n) [] all = refl
-all_behind p (suc n) (e ∷ es) all = all_behind p n es (and_parts (p e) (list_all p es) all).1
+-- one more line
+pub one_more_line : (es : List Exchange) (e : Exchange) → All HasLine es → HasLine e → All HasLine (es ++ e ∷ [])
+one_more_line es e lines line = All-append HasLine es (e ∷ []) lines (all_one e line)
+  where
+    all_one : (d : Exchange) → HasLine d → All HasLine (d ∷ [])
+    all_one d one zero other within = one
+    all_one d one (suc k) other within = absurd (omega arith)
+
+pub lines_behind : (n : ℕ) (es : List Exchange) → All HasLine es → All HasLine (drop n es)
+lines_behind zero es all = all
+lines_behind (suc n) [] all = all
+lines_behind (suc n) (e ∷ es) all = lines_behind n es (All-tail HasLine e es all)
 
 -- and answers by what was told
 pub answers_as_told : AnswersAsTold

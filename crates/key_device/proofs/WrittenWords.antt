@@ -14,7 +14,7 @@ use Rattle.hex.proofs.HexLemmas.{length-encode_with, decode_sized-encode_lower, 
 use Rattle.key_device.proofs.TapeWordLemmas.{own, all_digits}
 use Rattle.key_device.specs.TapeLine.{is_decimal, is_lower_digit, number_of, bytes_of, message_of, point_of}
 use Rattle.key_device.specs.TapeText.{message_text}
-use Rattle.key_device.specs.WrittenTape.{IsSized, IsPoint}
+use Rattle.key_device.specs.HasLine.{IsSized, IsPoint}
 use Rattle.key_device.specs.declared.point.Point.{Point}
 
 -- a byte of a word is neither a space nor a line feed

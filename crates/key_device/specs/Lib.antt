@@ -1,6 +1,8 @@
 pub mod Asking
 pub mod Gave
 pub mod GaveForms
+pub mod HasLine
+pub mod HasLineProp
 pub mod Plan
 pub mod PlanLaws
 pub mod PlanSteps

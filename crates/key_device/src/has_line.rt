@@ -1,9 +1,8 @@
 // What the types of an exchange say: that a line of a tape file can say it.
-ghost use Rattle.std.specs.Prelude.{◌≡◌, ◌<◌, ◌^◌, true, All};
-ghost use Rattle.std.specs.List.{list_all};
+ghost use Rattle.std.specs.Prelude.{◌≡◌, ◌<◌, ◌^◌, true};
 ghost use Rattle.hex.specs.Hex.{IsBytes};
 ghost use Rattle.key_device.specs.Tape.{is_exchange};
-ghost use Rattle.key_device.specs.WrittenTape.{IsSized, IsPoint, IsAsked, IsTold, HasLine};
+ghost use Rattle.key_device.specs.HasLine.{IsSized, IsPoint, IsAsked, IsTold, HasLine};
 
 use crate::{Ask, Exchange, Point, Told};
 
@@ -74,14 +73,4 @@ pub(crate) fn has_line(exchange: &Exchange)
 {
     is_asked(&exchange.ask);
     is_told(&exchange.told);
-}
-
-/// Holds no work: so fit all exchanges.
-pub(crate) fn have_lines(exchanges: &[Exchange])
-    requires { list_all is_exchange exchanges.now ≡ true }
-    ensures { All HasLine exchanges.now }
-{
-    for exchange in exchanges {
-        has_line(exchange);
-    }
 }

@@ -1,9 +1,10 @@
 // A device that keeps what was asked and told.
-ghost use Rattle.std.specs.Prelude.{◌≡◌, ◌≤◌, [], length, drop, true, IfOk};
-ghost use Rattle.std.specs.List.{list_all};
+ghost use Rattle.std.specs.Prelude.{◌≡◌, ◌≤◌, ◌<◌, ◌++◌, [], ◌∷◌, length, drop, true, All, IfOk, vec_len, vec_capacity};
+ghost use Rattle.key_device.specs.HasLineProp.{lines_prop};
 ghost use Rattle.key_device.specs.Tape.{is_exchange};
+ghost use Rattle.key_device.specs.HasLine.{HasLine};
 
-use crate::has_line::have_lines;
+use crate::has_line::has_line;
 use crate::tape_text::tape_text;
 use crate::{Ask, DeviceFault, Exchange, KeyDevice, Made, Point, Told};
 use mdoc_outside::{Memory, Octets};
@@ -15,7 +16,20 @@ pub struct Recorder<D> {
     device: D,
     talk: Vec<Exchange>,
     alloc: Global,
-    ghost exchanges: { list_all is_exchange talk.items ≡ true },
+    ghost lines: { All HasLine talk.items } by { lines_prop talk.items },
+}
+
+// Adds an exchange, for which there is room.
+#[tactic(auto, using(crate::proofs::WrittenTapes::one_more_line))]
+fn keep(talk: &mut Vec<Exchange>, exchange: Exchange)
+    requires room { vec_len talk.old < vec_capacity talk.old }
+    requires lines { All HasLine talk.old.items }
+    requires kind { is_exchange exchange ≡ true }
+    ensures added { talk.new.items ≡ talk.old.items ++ exchange ∷ [] }
+    ensures lines { All HasLine talk.new.items }
+{
+    has_line(&exchange);
+    talk.push_reserved(exchange);
 }
 
 impl<D> Recorder<D> {
@@ -35,9 +49,10 @@ impl<D> Recorder<D> {
         }
     }
 
-    /// What was asked and told so far.
+    /// What was asked and told so far, each of which a line of a tape file can say.
     pub fn talk(&self) -> &[Exchange]
-        ensures { result.now ≡ talk self.now }
+        ensures talk { result.now ≡ talk self.now }
+        ensures lines { All HasLine result.now }
     {
         &self.talk
     }
@@ -49,9 +64,7 @@ impl<D> Recorder<D> {
         ensures text { IfOk result (λ tape. tape ≡ tape_text (drop from (talk self.now))) }
         ensures read { IfOk result (λ tape. tape_of tape ≡ Ok (drop from (talk self.now))) }
     {
-        let exchanges = &self.talk[from..];
-        have_lines(exchanges);
-        Ok(Octets::from_vec(tape_text(self.alloc, exchanges)?))
+        Ok(Octets::from_vec(tape_text(self.alloc, &self.talk[from..])?))
     }
 }
 
@@ -85,10 +98,13 @@ impl<D: KeyDevice> KeyDevice for Recorder<D> {
             Err(DeviceFault::Failed) => Told::Failed,
             Err(DeviceFault::Memory) => return Err(DeviceFault::Memory),
         };
-        self.talk.push_reserved(Exchange {
-            ask: Ask::Fresh,
-            told,
-        });
+        keep(
+            &mut self.talk,
+            Exchange {
+                ask: Ask::Fresh,
+                told,
+            },
+        );
         answer
     }
 
@@ -108,10 +124,13 @@ impl<D: KeyDevice> KeyDevice for Recorder<D> {
             Err(DeviceFault::Failed) => Told::Failed,
             Err(DeviceFault::Memory) => return Err(DeviceFault::Memory),
         };
-        self.talk.push_reserved(Exchange {
-            ask: Ask::Agree(key, *peer),
-            told,
-        });
+        keep(
+            &mut self.talk,
+            Exchange {
+                ask: Ask::Agree(key, *peer),
+                told,
+            },
+        );
         answer
     }
 
@@ -131,10 +150,13 @@ impl<D: KeyDevice> KeyDevice for Recorder<D> {
             Err(DeviceFault::Failed) => Told::Failed,
             Err(DeviceFault::Memory) => return Err(DeviceFault::Memory),
         };
-        self.talk.push_reserved(Exchange {
-            ask: Ask::Sign(key, kept),
-            told,
-        });
+        keep(
+            &mut self.talk,
+            Exchange {
+                ask: Ask::Sign(key, kept),
+                told,
+            },
+        );
         answer
     }
 
@@ -160,10 +182,13 @@ impl<D: KeyDevice> KeyDevice for Recorder<D> {
             Err(DeviceFault::Failed) => Told::Failed,
             Err(DeviceFault::Memory) => return Err(DeviceFault::Memory),
         };
-        self.talk.push_reserved(Exchange {
-            ask: Ask::Verify(*public, kept, *signature),
-            told,
-        });
+        keep(
+            &mut self.talk,
+            Exchange {
+                ask: Ask::Verify(*public, kept, *signature),
+                told,
+            },
+        );
         answer
     }
 }
