@@ -17,3 +17,5 @@ pub mod GlanceCounts
 pub mod FaultKinds
 pub mod GlanceLaws
 pub mod ReadParts
+pub mod WrittenParts
+pub mod Contents
