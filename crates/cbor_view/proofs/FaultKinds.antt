@@ -1,4 +1,4 @@
--- The fault of an item is never that bytes stand behind it.
+-- The fault of an item is never that bytes follow it.
 use Rattle.std.proofs.Common.{◌≡◌, ℕ, zero, suc, ◌/◌, ◌%◌, ◌^◌, ◌==◌, ◌||◌, if◌then◌else◌, List, [], ◌∷◌, length, take, drop, Bool, true, false, nat_lt, Option, Some, None, Result, Ok, Err, refl}
 use Rattle.std.specs.Int.{Width, byte_len, w8, w16, w32, w64, from_be_bytes}
 use Rattle.std.specs.Str.{is_utf8}

@@ -132,52 +132,52 @@ number-sound_1 : (bytes rest : List ℕ) (n : ℕ) → AreBytes bytes → number
 number-sound_1 bytes rest n are = elim (nat_lt (length bytes) 1) as (λ t. nat_lt (length bytes) 1 ≡ t → number_if t w8 bytes ≡ read n rest → (n < 2 ^ 8) × (bytes ≡ to_be_bytes w8 n ++ rest)) [
   | true ↦ λ t e. absurd (cc)
   | false ↦ λ t e.
-      let cut : take 1 bytes ++ drop 1 bytes ≡ bytes = take-append-drop 1 bytes in
-      let each : (i : ℕ) → get_or (take 1 bytes) i 0 < 256 = front-each (take 1 bytes) (drop 1 bytes) (subst AreBytes (sym cut) are) in
+      let unfinished : take 1 bytes ++ drop 1 bytes ≡ bytes = take-append-drop 1 bytes in
+      let each : (i : ℕ) → get_or (take 1 bytes) i 0 < 256 = front-each (take 1 bytes) (drop 1 bytes) (subst AreBytes (sym unfinished) are) in
       let enough : 1 ≤ length bytes = ltb-false (length bytes) 1 t in
       let n-is : n ≡ from_be_bytes w8 (take 1 bytes) = sym (first-same (from_be_bytes w8 (take 1 bytes), drop 1 bytes) (n, rest) e) in
       let rest-is : rest ≡ drop 1 bytes = sym (second-same (from_be_bytes w8 (take 1 bytes), drop 1 bytes) (n, rest) e) in
       let number : to_be_bytes w8 n ≡ take 1 bytes = one_byte (take 1 bytes) n (length-take-le 1 bytes enough) each n-is in
-      (subst (λ m. m < 2 ^ 8) (sym n-is) (bound_1 (take 1 bytes) each), sym cut ∙ cc)
+      (subst (λ m. m < 2 ^ 8) (sym n-is) (bound_1 (take 1 bytes) each), sym unfinished ∙ cc)
 ] refl
 
 number-sound_2 : (bytes rest : List ℕ) (n : ℕ) → AreBytes bytes → number_at w16 bytes ≡ Ok (n, rest) → (n < 2 ^ 16) × (bytes ≡ to_be_bytes w16 n ++ rest)
 number-sound_2 bytes rest n are = elim (nat_lt (length bytes) 2) as (λ t. nat_lt (length bytes) 2 ≡ t → number_if t w16 bytes ≡ read n rest → (n < 2 ^ 16) × (bytes ≡ to_be_bytes w16 n ++ rest)) [
   | true ↦ λ t e. absurd (cc)
   | false ↦ λ t e.
-      let cut : take 2 bytes ++ drop 2 bytes ≡ bytes = take-append-drop 2 bytes in
-      let each : (i : ℕ) → get_or (take 2 bytes) i 0 < 256 = front-each (take 2 bytes) (drop 2 bytes) (subst AreBytes (sym cut) are) in
+      let unfinished : take 2 bytes ++ drop 2 bytes ≡ bytes = take-append-drop 2 bytes in
+      let each : (i : ℕ) → get_or (take 2 bytes) i 0 < 256 = front-each (take 2 bytes) (drop 2 bytes) (subst AreBytes (sym unfinished) are) in
       let enough : 2 ≤ length bytes = ltb-false (length bytes) 2 t in
       let n-is : n ≡ from_be_bytes w16 (take 2 bytes) = sym (first-same (from_be_bytes w16 (take 2 bytes), drop 2 bytes) (n, rest) e) in
       let rest-is : rest ≡ drop 2 bytes = sym (second-same (from_be_bytes w16 (take 2 bytes), drop 2 bytes) (n, rest) e) in
       let number : to_be_bytes w16 n ≡ take 2 bytes = be_bytes_2 (take 2 bytes) n (length-take-le 2 bytes enough) each n-is in
-      (subst (λ m. m < 2 ^ 16) (sym n-is) (bound_2 (take 2 bytes) each), sym cut ∙ cc)
+      (subst (λ m. m < 2 ^ 16) (sym n-is) (bound_2 (take 2 bytes) each), sym unfinished ∙ cc)
 ] refl
 
 number-sound_4 : (bytes rest : List ℕ) (n : ℕ) → AreBytes bytes → number_at w32 bytes ≡ Ok (n, rest) → (n < 2 ^ 32) × (bytes ≡ to_be_bytes w32 n ++ rest)
 number-sound_4 bytes rest n are = elim (nat_lt (length bytes) 4) as (λ t. nat_lt (length bytes) 4 ≡ t → number_if t w32 bytes ≡ read n rest → (n < 2 ^ 32) × (bytes ≡ to_be_bytes w32 n ++ rest)) [
   | true ↦ λ t e. absurd (cc)
   | false ↦ λ t e.
-      let cut : take 4 bytes ++ drop 4 bytes ≡ bytes = take-append-drop 4 bytes in
-      let each : (i : ℕ) → get_or (take 4 bytes) i 0 < 256 = front-each (take 4 bytes) (drop 4 bytes) (subst AreBytes (sym cut) are) in
+      let unfinished : take 4 bytes ++ drop 4 bytes ≡ bytes = take-append-drop 4 bytes in
+      let each : (i : ℕ) → get_or (take 4 bytes) i 0 < 256 = front-each (take 4 bytes) (drop 4 bytes) (subst AreBytes (sym unfinished) are) in
       let enough : 4 ≤ length bytes = ltb-false (length bytes) 4 t in
       let n-is : n ≡ from_be_bytes w32 (take 4 bytes) = sym (first-same (from_be_bytes w32 (take 4 bytes), drop 4 bytes) (n, rest) e) in
       let rest-is : rest ≡ drop 4 bytes = sym (second-same (from_be_bytes w32 (take 4 bytes), drop 4 bytes) (n, rest) e) in
       let number : to_be_bytes w32 n ≡ take 4 bytes = be_bytes_4 (take 4 bytes) n (length-take-le 4 bytes enough) each n-is in
-      (subst (λ m. m < 2 ^ 32) (sym n-is) (bound_4 (take 4 bytes) each), sym cut ∙ cc)
+      (subst (λ m. m < 2 ^ 32) (sym n-is) (bound_4 (take 4 bytes) each), sym unfinished ∙ cc)
 ] refl
 
 number-sound_8 : (bytes rest : List ℕ) (n : ℕ) → AreBytes bytes → number_at w64 bytes ≡ Ok (n, rest) → (n < 2 ^ 64) × (bytes ≡ to_be_bytes w64 n ++ rest)
 number-sound_8 bytes rest n are = elim (nat_lt (length bytes) 8) as (λ t. nat_lt (length bytes) 8 ≡ t → number_if t w64 bytes ≡ read n rest → (n < 2 ^ 64) × (bytes ≡ to_be_bytes w64 n ++ rest)) [
   | true ↦ λ t e. absurd (cc)
   | false ↦ λ t e.
-      let cut : take 8 bytes ++ drop 8 bytes ≡ bytes = take-append-drop 8 bytes in
-      let each : (i : ℕ) → get_or (take 8 bytes) i 0 < 256 = front-each (take 8 bytes) (drop 8 bytes) (subst AreBytes (sym cut) are) in
+      let unfinished : take 8 bytes ++ drop 8 bytes ≡ bytes = take-append-drop 8 bytes in
+      let each : (i : ℕ) → get_or (take 8 bytes) i 0 < 256 = front-each (take 8 bytes) (drop 8 bytes) (subst AreBytes (sym unfinished) are) in
       let enough : 8 ≤ length bytes = ltb-false (length bytes) 8 t in
       let n-is : n ≡ from_be_bytes w64 (take 8 bytes) = sym (first-same (from_be_bytes w64 (take 8 bytes), drop 8 bytes) (n, rest) e) in
       let rest-is : rest ≡ drop 8 bytes = sym (second-same (from_be_bytes w64 (take 8 bytes), drop 8 bytes) (n, rest) e) in
       let number : to_be_bytes w64 n ≡ take 8 bytes = be_bytes_8 (take 8 bytes) n (length-take-le 8 bytes enough) each n-is in
-      (subst (λ m. m < 2 ^ 64) (sym n-is) (bound_8 (take 8 bytes) each), sym cut ∙ cc)
+      (subst (λ m. m < 2 ^ 64) (sym n-is) (bound_8 (take 8 bytes) each), sym unfinished ∙ cc)
 ] refl
 
 -- ---- the steps of a reading

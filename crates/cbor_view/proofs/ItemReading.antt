@@ -69,8 +69,8 @@ started : (d : ℕ) (h : Head) (front rest : List ℕ) → HeadOf h front → it
 started d h front rest is = item-inner d (front ++ rest) ∙ ap (behind_head (inner d) (length (front ++ rest))) (typed-again h front rest is)
 
 -- a head and a body
-begun : (d : ℕ) (h : Head) (bytes front body rest : List ℕ) → HeadOf h front → bytes ≡ front ++ body → item_at d (bytes ++ rest) ≡ behind (inner d) (length (front ++ (body ++ rest))) h (body ++ rest)
-begun d h bytes front body rest is whole = ap (item_at d) (ap (λ x. x ++ rest) whole ∙ append_assoc front body rest) ∙ started d h front (body ++ rest) is
+head_and_body : (d : ℕ) (h : Head) (bytes front body rest : List ℕ) → HeadOf h front → bytes ≡ front ++ body → item_at d (bytes ++ rest) ≡ behind (inner d) (length (front ++ (body ++ rest))) h (body ++ rest)
+head_and_body d h bytes front body rest is whole = ap (item_at d) (ap (λ x. x ++ rest) whole ∙ append_assoc front body rest) ∙ started d h front (body ++ rest) is
 
 nested-again : {A : Type 0} (left n d : ℕ) (parts : Reader Tree → Result A Stop) → n < 2 ^ 32 → 0 < d → counted left n (deeper (inner d) left parts) ≡ parts (item_at (d - 1))
 nested-again left n d parts short deep = let t : nat_lt n (2 ^ 32) ≡ true = grind (arith, nat_tests) in rw t (rw (inner-positive d deep) refl)
@@ -99,18 +99,18 @@ mutual
   pub item-again : (t : Tree) (d : ℕ) (front rest : List ℕ) → Spelled t front → levels t ≤ d → item_at d (front ++ rest) ≡ read t rest
   item-again (Unsigned n) d front rest s l = started d (heads.Unsigned n) front rest s
   item-again (Negative n) d front rest s l = started d (heads.Negative n) front rest s
-  item-again (Bytes b) d front rest s l = begun d (heads.Bytes (length b)) front s.1.front s.1.rest rest s.1.first s.1.whole ∙ rw s.1.second (rw (string-again (length (s.1.front ++ (b ++ rest))) b rest s.0) refl)
-  item-again (Text b) d front rest s l = begun d (heads.Text (length b)) front s.2.front s.2.rest rest s.2.first s.2.whole ∙ rw s.2.second (rw (text-again (length (s.2.front ++ (b ++ rest))) b rest s.0 s.1) refl)
+  item-again (Bytes b) d front rest s l = head_and_body d (heads.Bytes (length b)) front s.1.front s.1.rest rest s.1.first s.1.whole ∙ rw s.1.second (rw (string-again (length (s.1.front ++ (b ++ rest))) b rest s.0) refl)
+  item-again (Text b) d front rest s l = head_and_body d (heads.Text (length b)) front s.2.front s.2.rest rest s.2.first s.2.whole ∙ rw s.2.second (rw (text-again (length (s.2.front ++ (b ++ rest))) b rest s.0 s.1) refl)
   item-again (Array ts) d front rest s l =
-      begun d (heads.Array (count ts)) front s.1.front s.1.rest rest s.1.first s.1.whole
+      head_and_body d (heads.Array (count ts)) front s.1.front s.1.rest rest s.1.first s.1.whole
       ∙ nested-again (length (s.1.front ++ (s.1.rest ++ rest))) (count ts) d (λ one. items_at one (count ts) (s.1.rest ++ rest) >>= λ x. read (Array x.0) x.1) s.0 (omega arith)
       ∙ ap (λ r. r >>= λ x. read (Array x.0) x.1) (all-again ts (d - 1) s.1.rest rest s.1.second (omega arith))
   item-again (Map ps) d front rest s l =
-      begun d (heads.Map (pair_count ps)) front s.1.front s.1.rest rest s.1.first s.1.whole
+      head_and_body d (heads.Map (pair_count ps)) front s.1.front s.1.rest rest s.1.first s.1.whole
       ∙ nested-again (length (s.1.front ++ (s.1.rest ++ rest))) (pair_count ps) d (λ one. pairs_at one (pair_count ps) (s.1.rest ++ rest) >>= λ x. read (Map x.0) x.1) s.0 (omega arith)
       ∙ ap (λ r. r >>= λ x. read (Map x.0) x.1) (pairs-again ps (d - 1) s.1.rest rest s.1.second (omega arith))
   item-again (Tag n t) d front rest s l =
-      begun d (heads.Tag n) front s.front s.rest rest s.first s.whole
+      head_and_body d (heads.Tag n) front s.front s.rest rest s.first s.whole
       ∙ nested-again (length (s.front ++ (s.rest ++ rest))) 1 d (λ one. one (s.rest ++ rest) >>= λ x. read (Tag n x.0) x.1) (omega arith) (omega arith)
       ∙ ap (λ r. r >>= λ x. read (Tag n x.0) x.1) (item-again t (d - 1) s.rest rest s.second (omega arith))
   item-again (Simple n) d front rest s l = started d (heads.Simple n) front rest s
@@ -221,7 +221,7 @@ Inside : ℕ → Option (Reader Tree) → Type 0
 Inside d None = Unit {0}
 Inside d (Some one) = (k : ℕ) × (d ≡ suc k) × IsSound k one
 
--- what stands behind a head
+-- what follows a head
 behind-sound : (d : ℕ) (room : Option (Reader Tree)) → Inside d room → (left : ℕ) (h : Head) (bytes front body rest : List ℕ) (t : Tree) → HeadOf h front → bytes ≡ front ++ body → AreBytes body → behind room left h body ≡ read t rest → ReadAs d bytes t rest
 unfolding Inside
 behind-sound d room inside left (heads.Unsigned n) bytes front body rest t is w are e = finished d bytes front body rest (Unsigned n) t is (omega arith) w e

@@ -1,4 +1,3 @@
-mod Cases
 pub mod Steps
 pub mod HeadReading
 pub mod ItemReading
@@ -8,14 +7,13 @@ pub mod Stepping
 pub mod Listing
 pub mod Places
 pub mod ShortestSpelling
-pub mod Depth
-pub mod Glancing
-pub mod GlancePlaces
-pub mod GlanceParts
-pub mod GlanceOpening
-pub mod GlanceCounts
+pub mod PartialFaults
+pub mod PartialPlaces
+pub mod PartialParts
+pub mod PartialOpening
+pub mod PartialCounts
 pub mod FaultKinds
-pub mod GlanceLaws
+pub mod PartialLaws
 pub mod ReadParts
 pub mod WrittenParts
 pub mod Contents

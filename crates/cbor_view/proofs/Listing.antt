@@ -59,14 +59,14 @@ only-trees (p ∷ []) = refl
 only-trees (p ∷ (q ∷ ps)) = refl
 
 entry-trees : (label : Label) (t : Tree) (p : Part) (es : List (Part × Part)) → Some (map both_trees es) ≡ pairs_of t → Some es ≡ pairs_in p → entry_of label t ≡ as_trees (entry_in label p)
-entry-trees label t p es exact placed =
+entry-trees label t p es exact at_offset =
     ap (λ o. only_of (values_of (λ k. k) label (entries_or_none o))) (sym exact)
     ∙ ap only_of (values-trees label es)
     ∙ only-trees (values_of tree_in label es)
-    ∙ ap (λ o. as_trees (only_of (values_of tree_in label (entries_or_none o)))) placed
+    ∙ ap (λ o. as_trees (only_of (values_of tree_in label (entries_or_none o)))) at_offset
 
 pub entry-doubled : (label : Label) (t : Tree) (p : Part) (es : List (Part × Part)) → Some (map both_trees es) ≡ pairs_of t → Some es ≡ pairs_in p → entry_in label p ≡ Err (record {}) → entry_of label t ≡ Err (record {})
-entry-doubled label t p es exact placed e = entry-trees label t p es exact placed ∙ ap as_trees e
+entry-doubled label t p es exact at_offset e = entry-trees label t p es exact at_offset ∙ ap as_trees e
 
 pub entry-found : (label : Label) (t : Tree) (p : Part) (es : List (Part × Part)) (found : Option Part) → Some (map both_trees es) ≡ pairs_of t → Some es ≡ pairs_in p → entry_in label p ≡ Ok found → entry_of label t ≡ Ok (option_map tree_in found)
-entry-found label t p es found exact placed e = entry-trees label t p es exact placed ∙ ap as_trees e
+entry-found label t p es found exact at_offset e = entry-trees label t p es exact at_offset ∙ ap as_trees e

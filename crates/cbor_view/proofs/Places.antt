@@ -69,7 +69,7 @@ part-lies all None l = tt
 part-lies all (Some v) l = l
 
 pub found-lies : (all : Part) (label : Label) (es : List (Part × Part)) (o : Option View) → AllByRecursion (BothLieIn all) es → Some es ≡ pairs_in all → entry_in label all ≡ Ok (option_map part o) → IfSome o (λ v. LiesIn all (part v))
-found-lies all label es o l placed e = part-lies all o (only-lies all (values_of tree_in label es) (option_map part o) (values-lie all label es l) (ap (λ x. only_of (values_of tree_in label (entries_or_none x))) placed ∙ e))
+found-lies all label es o l at_offset e = part-lies all o (only-lies all (values_of tree_in label es) (option_map part o) (values-lie all label es l) (ap (λ x. only_of (values_of tree_in label (entries_or_none x))) at_offset ∙ e))
 
 pub seen-tree : (o : Option View) → option_map tree_in (option_map part o) ≡ option_map tree o
 seen-tree None = refl

@@ -149,9 +149,9 @@ record HeadLeast (major n : ℕ) (bytes : List ℕ) : Type 0 where
 
 head-least : (major n : ℕ) (bytes : List ℕ) → IsHead major n bytes → HeadLeast major n bytes
 head-least major n bytes h =
-    let own : length bytes ≡ suc (extra h.form) = ap length h.spelled ∙ ap suc (extra-length h.form n) in
+    let own_fault : length bytes ≡ suc (extra h.form) = ap length h.spelled ∙ ap suc (extra-length h.form n) in
     let short : length (shortest_head major n) ≡ suc (extra (shortest_form n)) = ap suc (extra-length (shortest_form n) n) in
-    record { fits = limit-least h.form n h.holds; least = omega (arith, own, short, form-least h.form n h.holds) }
+    record { fits = limit-least h.form n h.holds; least = omega (arith, own_fault, short, form-least h.form n h.holds) }
 
 pub record IsLeast (t : Tree) (bytes : List ℕ) : Type 0 where
   pub fits : Fits t

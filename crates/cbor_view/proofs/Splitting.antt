@@ -1,19 +1,20 @@
--- What stands behind the head of an item that was read.
+-- What follows the head of an item that was read.
 use Rattle.std.proofs.Common.{◌≡◌, ℕ, suc, ◌+◌, ◌-◌, ◌≤◌, List, [], ◌++◌, length, take, drop, true, Result, Ok, Err, refl, sym, ap, ◌∙◌, subst, arith, IsOk, is_ok}
 use Rattle.std.proofs.lemmas.List.{append-nil, length-append}
 use Rattle.std.proofs.Math.Seq.{take-append_seam, drop-append_seam}
 use Rattle.cbor_view.specs.declared.cbor_kind.CborKind.{CborKind}
 use Rattle.cbor_view.specs.declared.cbor_fault.CborFault.{CborFault}
+use Rattle.cbor_view.specs.declared.stop.Stop.{Stop}
 use Rattle.cbor_view.specs.declared.heads.Head.{Head}
 use Rattle.cbor_view.specs.declared.heads.Head.TheVariants as heads
 use Rattle.cbor_view.specs.Tree.{Tree, Unsigned, Negative, Bytes, Text, Array, Map, Tag, Simple, Float, Trees, none, more, Pairs, no_pair, pair, count, pair_count, levels, levels_of_all, levels_of_pairs}
 use Rattle.cbor_view.specs.Spelling.{Spelled, AllSpelled, PairsSpelled}
-use Rattle.cbor_view.specs.Reading.{item_at, head_at, reads, tree_of, tree_or_null, size, past_or_none}
+use Rattle.cbor_view.specs.Reading.{item_at, head_at, measured, reads, tree_of, tree_or_null, size, past_or_none}
 use Rattle.cbor_view.specs.Parts.{trees_of, pairs_from, parts_at, entries_at}
 use Rattle.cbor_view.specs.Opening.{are_items, are_pairs, Opens, EndsWith}
 use Rattle.cbor_view.proofs.HeadReading.{AreBytes, HeadOf, typed-again, head-sound}
 use Rattle.cbor_view.proofs.ItemReading.{item-again}
-use Rattle.cbor_view.proofs.WholeReading.{spells-reads, reads-spells}
+use Rattle.cbor_view.proofs.WholeReading.{spells-reads, reads-spells, reads-read}
 
 -- ---- an item at the front of bytes
 
@@ -88,7 +89,7 @@ all-entries (pair k v ps) body at s l =
     (is-first v s.second.front s.second.rest s.second.first b)
     (all-entries ps s.second.rest (at + size (s.front ++ (s.second.front ++ s.second.rest)) + size (s.second.front ++ s.second.rest)) s.second.second c))
 
--- ---- what stands behind the head
+-- ---- what follows the head
 
 pub record Splits (bytes : List ℕ) (h : Head) (body : List ℕ) (t : Tree) : Type 0 where
   pub head : head_at bytes ≡ Ok (h, body)
@@ -129,6 +130,18 @@ ok-value (Err e) ok = absurd (cc)
 pub is-read : (bytes : List ℕ) → IsOk (reads bytes) → reads bytes ≡ Ok (tree_of bytes)
 unfolding tree_of
 is-read bytes ok = ok-value (reads bytes) ok
+
+-- the walk over it gives its depth
+pub depth-read : (item : List ℕ) (n : ℕ) (rest : List ℕ) → IsOk (reads item) → measured levels (item_at 32 item) ≡ Ok (n, rest) → n ≡ levels (tree_of item)
+depth-read item n rest ok e =
+    let r = ap (measured levels) (reads-read item (tree_of item) (is-read item ok)) in
+    let both : ◌≡◌ {A = Result (ℕ × List ℕ) Stop} (Ok (n, rest)) (Ok (levels (tree_of item), [])) = sym e ∙ r in
+    let q : (n, rest) ≡ (levels (tree_of item), []) = cc in
+    let f : ℕ × List ℕ → ℕ = λ x. x.0 in
+    ap f q
+
+pub depth-stops : (item : List ℕ) (s : Stop) → IsOk (reads item) → measured levels (item_at 32 item) ≡ Err s → ⊥
+depth-stops item s ok e = let r = ap (measured levels) (reads-read item (tree_of item) (is-read item ok)) in cc
 
 split-item : (bytes : List ℕ) → AreBytes bytes → IsOk (reads bytes) → IsSplit bytes (tree_of bytes)
 split-item bytes are ok = let s = reads-spells bytes (tree_of bytes) are (is-read bytes ok) in split-spelled (tree_of bytes) bytes s.spelled s.nesting

@@ -1,4 +1,4 @@
--- One step along items that stand one behind the other.
+-- One step along items that follow one another.
 use Rattle.std.proofs.Common.{◌≡◌, ℕ, zero, suc, ◌-◌, ◌<◌, ◌≤◌, List, [], ◌∷◌, length, take, drop, Bool, true, false, ◌&&◌, Ok, Err, refl, ap, subst, arith, is_ok}
 use Rattle.cbor_view.specs.declared.stop.Stop.{Stop}
 use Rattle.cbor_view.specs.Reading.{item_at, past, past_or_none, size, reads, head_at}
@@ -41,7 +41,7 @@ pub items_step : (n : ℕ) (bytes : List ℕ) → 0 < n → are_items n bytes �
 items_step zero bytes h e = absurd (omega arith)
 items_step (suc n) bytes h e = let k : suc n - 1 ≡ n = omega arith in rw k (both (begins bytes) (are_items n (drop (size bytes) bytes)) e).1
 
--- the key, the value and the pairs behind them
+-- the key, the value and the pairs after them
 pub record PairsBegin (n : ℕ) (bytes : List ℕ) : Type 0 where
   pub key : begins bytes ≡ true
   pub value : begins (drop (size bytes) bytes) ≡ true

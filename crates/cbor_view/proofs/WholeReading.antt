@@ -7,7 +7,7 @@ use Rattle.cbor_view.specs.declared.cbor_fault.CborFault.{CborFault}
 use Rattle.cbor_view.specs.declared.stop.Stop.{Stop}
 use Rattle.cbor_view.specs.Tree.{Tree}
 use Rattle.cbor_view.specs.Spelling.{Spells}
-use Rattle.cbor_view.specs.Reading.{item_at, past, placed, alone, stop, reads, tree_of, tree_or_null}
+use Rattle.cbor_view.specs.Reading.{item_at, past, at_offset, nothing_after, stop, reads, tree_of, tree_or_null}
 use Rattle.cbor_view.specs.Parts.{cbor, part_of}
 use Rattle.cbor_view.proofs.HeadReading.{AreBytes}
 use Rattle.cbor_view.proofs.ItemReading.{item-again, item-sound}
@@ -21,8 +21,8 @@ pub reads-ok : (bytes : List ℕ) (t : Tree) → item_at 32 bytes ≡ Ok (t, [])
 unfolding reads
 reads-ok bytes t e = rw e refl
 
-alone-ok : (r : Result (Tree × List ℕ) Stop) (len : ℕ) (t : Tree) → placed len (alone r) ≡ Ok t → r ≡ Ok (t, [])
-alone-ok (Ok x) len t e = elim (length x.1 == 0) as (λ b. (length x.1 == 0) ≡ b → placed len (if b then Ok x.0 else stop Trailing (length x.1)) ≡ Ok t → ◌≡◌ {A = Result (Tree × List ℕ) Stop} (Ok x) (Ok (t, []))) [
+alone-ok : (r : Result (Tree × List ℕ) Stop) (len : ℕ) (t : Tree) → at_offset len (nothing_after r) ≡ Ok t → r ≡ Ok (t, [])
+alone-ok (Ok x) len t e = elim (length x.1 == 0) as (λ b. (length x.1 == 0) ≡ b → at_offset len (if b then Ok x.0 else stop Trailing (length x.1)) ≡ Ok t → ◌≡◌ {A = Result (Tree × List ℕ) Stop} (Ok x) (Ok (t, []))) [
   | true ↦ λ b e. let zero_len : length x.1 ≡ 0 = grind (arith, nat_tests) in let r : x.1 ≡ [] = nothing x.1 zero_len in let q : x.0 ≡ t = cc in ap (λ (y : Tree). Ok (y, x.1)) q ∙ ap (λ (y : List ℕ). Ok (t, y)) r
   | false ↦ λ b e. absurd (cc)
 ] refl e

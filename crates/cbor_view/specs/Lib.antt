@@ -8,8 +8,8 @@ pub mod Opening
 pub mod View
 pub mod Items
 pub mod Pairs
-pub mod Glance
-pub mod Glanced
-pub mod GlanceItems
-pub mod GlancePairs
-pub mod Begun
+pub mod PartialItem
+pub mod PartialView
+pub mod PartialItems
+pub mod PartialPairs
+pub mod PartialHead

@@ -1,4 +1,4 @@
--- What stands behind the head of an item that was read.
+-- What follows the head of an item that was read.
 use Rattle.std.specs.Prelude.{◌≡◌, ℕ, zero, suc, Bool, true, ◌&&◌, List, take, drop, IsUtf8, IsTrue, IsOk, is_ok, ◌++◌}
 use Rattle.cbor_view.specs.declared.heads.Head.{Head}
 use Rattle.cbor_view.specs.declared.heads.Head.TheVariants as heads
@@ -24,7 +24,7 @@ pub record EndsWith (all rest : List ℕ) : Type 0 where
   pub front : List ℕ
   pub whole : all ≡ front ++ rest
 
--- the tree of an item by its head and by what stands behind it
+-- the tree of an item by its head and by what follows it
 abbrev pub Opens : Head → List ℕ → Tree → Type 0
 Opens (heads.Unsigned n) body t = t ≡ Unsigned n
 Opens (heads.Negative n) body t = t ≡ Negative n

@@ -7,7 +7,7 @@ use Rattle.cbor_view.specs.declared.doubled.Doubled.{Doubled}
 use Rattle.cbor_view.specs.declared.heads.Head.{Head}
 use Rattle.cbor_view.specs.declared.heads.Head.TheVariants as heads
 use Rattle.std.specs.List.{AllByRecursion}
-use Rattle.cbor_view.specs.Tree.{Tree, uint_of, bytes_of, text_of, boolean_of, is_null, Trees, none, more, Pairs, no_pair, pair}
+use Rattle.cbor_view.specs.Tree.{Tree, uint_of, bytes_of, text_of, boolean_of, Trees, none, more, Pairs, no_pair, pair}
 use Rattle.cbor_view.specs.Label.{Label, values_of, only_of, entries_or_none}
 use Rattle.cbor_view.specs.Reading.{head_at, reads, tree_of, size}
 
@@ -31,7 +31,7 @@ abbrev pub pairs_from : List (Part × Part) → Pairs
 pairs_from [] = no_pair
 pairs_from (e ∷ es) = pair (tree_in e.0) (tree_in e.1) (pairs_from es)
 
--- The second part stands within the first: its bytes are there, behind as many as its place says.
+-- The second part stands within the first: its bytes are there, after as many as its place says.
 pub record LiesIn (all p : Part) : Type 0 where
   pub before : List ℕ
   pub after : List ℕ
@@ -55,7 +55,7 @@ part_of bytes (Err e) = Err e
 abbrev pub cbor : List ℕ → Result Part CborFault
 cbor bytes = part_of bytes (reads bytes)
 
--- Items stand one behind the other: the first of them, and the place and bytes of the others.
+-- Items follow one another: the first of them, and the place and bytes of the others.
 abbrev pub first_part : Part → Part
 first_part p = record { at = p.at; bytes = take (size p.bytes) p.bytes }
 
@@ -71,7 +71,7 @@ unfoldable pub entries_at : ℕ → Part → List (Part × Part)
 entries_at zero p = []
 entries_at (suc n) p = (first_part p, first_part (after_first p)) ∷ entries_at n (after_first (after_first p))
 
--- what stands behind the head, at its place
+-- what follows the head, at its place
 abbrev pub body_of : Part → List ℕ → Part
 body_of p rest = record { at = p.at + (length p.bytes - length rest); bytes = rest }
 
@@ -116,9 +116,6 @@ text_in p = text_of (tree_in p)
 
 abbrev pub boolean_in : Part → Option Bool
 boolean_in p = boolean_of (tree_in p)
-
-abbrev pub is_null_in : Part → Bool
-is_null_in p = is_null (tree_in p)
 
 -- The value under a key of a map: none where it isn't there or the part is no map.
 abbrev pub entry_in : Label → Part → Result (Option Part) Doubled

@@ -51,7 +51,7 @@ unfoldable pub head_at : List ℕ → Result (Head × List ℕ) CborKind
 head_at [] = Err Truncated
 head_at (first ∷ rest) = head_with (first / 32) (first % 32) rest
 
--- Items. A reader gives a value and the bytes behind it, or the fault with the number of bytes that are
+-- Items. A reader gives a value and the bytes after it, or the fault with the number of bytes that are
 -- left from its place on.
 abbrev pub Reader : Type 0 → Type 0
 Reader A = List ℕ → Result (A × List ℕ) Stop
@@ -83,7 +83,7 @@ abbrev pub deeper : {A : Type 0} → Option (Reader Tree) → ℕ → (Reader Tr
 deeper None left parts = stop Deep left
 deeper (Some one) left parts = parts one
 
--- what stands behind a head, `left` being the number of bytes from the head on
+-- what follows a head, `left` being the number of bytes from the head on
 abbrev pub behind : Option (Reader Tree) → ℕ → Head → Reader Tree
 behind inner left (heads.Unsigned n) rest = Ok (Unsigned n, rest)
 behind inner left (heads.Negative n) rest = Ok (Negative n, rest)
@@ -113,27 +113,35 @@ inner (suc d) = Some (item_at d)
 abbrev pub below : ℕ → ℕ → Result ℕ Stop
 below left d = if d == 0 then stop Deep left else Ok (d - 1)
 
-abbrev pub entered : ℕ → ℕ → ℕ → Result ℕ Stop
-entered left n d = counted left n (below left d)
+abbrev pub levels_inside : ℕ → ℕ → ℕ → Result ℕ Stop
+levels_inside left n d = counted left n (below left d)
 
 -- without the tree
 abbrev pub past : {A : Type 0} → Result (A × List ℕ) Stop → Result (List ℕ) Stop
 past (Ok x) = Ok x.1
 past (Err s) = Err s
 
--- the fault at its offset in that many bytes
-abbrev pub placed : {A : Type 0} → ℕ → Result A Stop → Result A CborFault
-placed len (Ok x) = Ok x
-placed len (Err s) = Err (record { kind = s.kind; at = len - s.left })
+-- with a number in place of the value, as the depth of what was read
+abbrev pub measured : {A : Type 0} → (A → ℕ) → Result (A × List ℕ) Stop → Result (ℕ × List ℕ) Stop
+measured measure (Ok x) = Ok (measure x.0, x.1)
+measured measure (Err s) = Err s
 
--- nothing may stand behind it
-abbrev pub alone : {A : Type 0} → Result (A × List ℕ) Stop → Result A Stop
-alone (Ok x) = if length x.1 == 0 then Ok x.0 else stop Trailing (length x.1)
-alone (Err s) = Err s
+abbrev pub no_levels : {A : Type 0} → A → ℕ
+no_levels x = 0
+
+-- the fault at its offset in that many bytes
+abbrev pub at_offset : {A : Type 0} → ℕ → Result A Stop → Result A CborFault
+at_offset len (Ok x) = Ok x
+at_offset len (Err s) = Err (record { kind = s.kind; at = len - s.left })
+
+-- nothing may follow it
+abbrev pub nothing_after : {A : Type 0} → Result (A × List ℕ) Stop → Result A Stop
+nothing_after (Ok x) = if length x.1 == 0 then Ok x.0 else stop Trailing (length x.1)
+nothing_after (Err s) = Err s
 
 -- all of the bytes as one item
 unfoldable pub reads : List ℕ → Result Tree CborFault
-reads bytes = placed (length bytes) (alone (item_at 32 bytes))
+reads bytes = at_offset (length bytes) (nothing_after (item_at 32 bytes))
 
 abbrev pub tree_or_null : Result Tree CborFault → Tree
 tree_or_null (Ok t) = t

@@ -4,7 +4,7 @@ use Rattle.std.specs.Prelude.{◌≡◌, ℕ, ◌+◌, ◌*◌, ◌^◌, ◌<◌
 use Rattle.std.specs.Int.{w8, w16, w32, w64, to_be_bytes}
 use Rattle.cbor_view.specs.Tree.{Tree, Unsigned, Negative, Bytes, Text, Array, Map, Tag, Simple, Float, Trees, none, more, Pairs, no_pair, pair, count, pair_count, levels}
 
--- A head holds its argument in its first byte, or in 1, 2, 4 or 8 bytes behind it (section 3).
+-- A head holds its argument in its first byte, or in 1, 2, 4 or 8 bytes after it (section 3).
 pub data Form : Type 0 where
   Within : Form
   One : Form

@@ -1,7 +1,7 @@
 //! What can be wrong with bytes that are to be one item.
 
 /// What is wrong at the place that a `CborFault` names. Where several apply at one head, the first
-/// of this list is told.
+/// of this list is reported.
 #[derive(Clone, Copy, Debug, PartialEq, Eq)]
 pub enum CborKind {
     /// The head or the string passes the end of the bytes, or a part is missing there.

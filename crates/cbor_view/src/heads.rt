@@ -21,7 +21,7 @@ pub(crate) enum Head {
     Float { width: u64, bits: u64 },
 }
 
-/// The head at the front, and the bytes behind it.
+/// The head at the front, and the bytes after it.
 #[tactic(auto, unfolding(crate::specs::Reading::head_at))]
 pub(crate) fn read_head(bytes: &[u8]) -> Result<(Head, &[u8]), CborKind>
     ensures { Gives (λ x. (x.0, x.1.now)) result (head_at bytes.now) }

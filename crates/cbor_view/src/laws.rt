@@ -8,7 +8,7 @@ ghost use Rattle.cbor_view.specs.Spelling.{AreBytes, Spells, Fits};
 ghost use Rattle.cbor_view.specs.Shortest.{shortest};
 ghost use Rattle.cbor_view.specs.Reading.{reads};
 ghost use Rattle.cbor_view.specs.Parts.{Part, LiesIn};
-ghost use Rattle.cbor_view.specs.Glance.{whole, glance, fault_in};
+ghost use Rattle.cbor_view.specs.PartialItem.{whole, front_item, fault_in};
 
 /// Bytes spell at most one tree.
 pub fn one_tree()
@@ -41,17 +41,17 @@ pub fn within_within()
     ensures { (a b c : Part) → LiesIn a b → LiesIn b c → LiesIn a c }
 {}
 
-/// A glance at bytes that are one item is that item, whole.
-pub fn whole_glance()
-    ensures { (bytes : List ℕ) (t : Tree) → reads bytes ≡ Ok t → glance bytes ≡ whole (record { at = 0; bytes = bytes }) }
+/// The item at the front of bytes that are one item is that item, whole.
+pub fn item_is_whole()
+    ensures { (bytes : List ℕ) (t : Tree) → reads bytes ≡ Ok t → front_item bytes ≡ whole (record { at = 0; bytes = bytes }) }
 {}
 
-/// The first fault of bytes is the one of the glance at them, but for bytes behind the item.
-pub fn glance_fault()
-    ensures { (bytes : List ℕ) (fault : CborFault) → AreBytes bytes → reads bytes ≡ Err fault → (fault.kind ≡ Trailing → ⊥) → fault_in (glance bytes) ≡ Some fault }
+/// The first fault of bytes is the one of the item at their front, but for bytes after the item.
+pub fn same_first_fault()
+    ensures { (bytes : List ℕ) (fault : CborFault) → AreBytes bytes → reads bytes ≡ Err fault → (fault.kind ≡ Trailing → ⊥) → fault_in (front_item bytes) ≡ Some fault }
 {}
 
-/// A glance at an item with bytes behind it is the item, whole.
-pub fn front_glance()
-    ensures { (bytes : List ℕ) (fault : CborFault) → reads bytes ≡ Err fault → fault.kind ≡ Trailing → glance bytes ≡ whole (record { at = 0; bytes = take fault.at bytes }) }
+/// The item at the front of bytes that go on after it is whole.
+pub fn front_item_is_whole()
+    ensures { (bytes : List ℕ) (fault : CborFault) → reads bytes ≡ Err fault → fault.kind ≡ Trailing → front_item bytes ≡ whole (record { at = 0; bytes = take fault.at bytes }) }
 {}

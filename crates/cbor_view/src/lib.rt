@@ -1,20 +1,20 @@
 //! Views of CBOR (RFC 8949), borrowed from the bytes that spell them, with no memory taken.
 //!
 //! The one contract: a view is the tree that its bytes spell, and there is none where bytes spell
-//! no tree. A glance is an item as far as its bytes are spelled, whole or not.
+//! no tree. A partial view is of an item as far as its bytes are spelled, whole or not.
 #![tactic(auto)]
 
 mod cbor_fault;
 mod cbor_kind;
 mod doubled;
-mod glance;
-mod glance_items;
-mod glance_pairs;
 mod heads;
 mod items;
 mod key;
 mod laws;
 mod pairs;
+mod partial_items;
+mod partial_pairs;
+mod partial_view;
 mod sharing;
 mod stop;
 mod view;
@@ -23,17 +23,17 @@ mod walk;
 pub use cbor_fault::CborFault;
 pub use cbor_kind::CborKind;
 pub use doubled::Doubled;
-pub use glance::Glance;
-pub use glance_items::GlanceItems;
-pub use glance_pairs::GlancePairs;
 pub use items::Items;
 pub use key::Key;
 pub use laws::{
-    front_glance, glance_fault, no_prefix, one_tree, reads_spelled, shortest_least,
-    shortest_spells, whole_glance, within_within,
+    front_item_is_whole, item_is_whole, no_prefix, one_tree, reads_spelled, same_first_fault,
+    shortest_least, shortest_spells, within_within,
 };
 pub use pairs::Pairs;
-pub use sharing::crosses;
+pub use partial_items::PartialItems;
+pub use partial_pairs::PartialPairs;
+pub use partial_view::PartialView;
+pub use sharing::types_are_send_and_sync;
 pub use view::View;
 
 #[cfg(test)]

@@ -328,7 +328,7 @@ fn goes_under_tags(rt: HostRuntime) -> Result<(), Fail> {
     assert_eq!(rt; (number, inner.span()), (24, (2, 6)));
     assert_eq!(rt; inner.bytes(), Some(b"\xa1\x01\x02".as_slice()));
     assert_eq!(rt; (embedded.depth(), inner.depth()), (1, 0));
-    crosses();
+    types_are_send_and_sync();
     Ok(())
 }
 
@@ -336,19 +336,19 @@ fn goes_under_tags(rt: HostRuntime) -> Result<(), Fail> {
 const CUT_MAP: &[u8] = b"\xa3\x61a\x01\x61b\x81\x02\x61c\x63xy";
 
 #[test]
-fn glances_at_a_cut_map(rt: HostRuntime) -> Result<(), Fail> {
-    let glance = Glance::read(CUT_MAP);
+fn views_a_cut_map(rt: HostRuntime) -> Result<(), Fail> {
+    let partial = PartialView::read(CUT_MAP);
     let truncated = CborFault {
         kind: CborKind::Truncated,
         at: 10,
     };
-    assert_eq!(rt; glance.fault(), Some(truncated));
-    assert_eq!(rt; glance.fault(), View::read(CUT_MAP).err());
-    assert!(rt; glance.view().is_none());
-    assert!(rt; glance.items().is_none());
-    assert!(rt; glance.count().is_none());
-    assert!(rt; glance.tag().is_none());
-    let mut pairs = glance.pairs().ok_or("a map")?;
+    assert_eq!(rt; partial.fault(), Some(truncated));
+    assert_eq!(rt; partial.fault(), View::read(CUT_MAP).err());
+    assert!(rt; partial.view().is_none());
+    assert!(rt; partial.items().is_none());
+    assert!(rt; partial.count().is_none());
+    assert!(rt; partial.tag().is_none());
+    let mut pairs = partial.pairs().ok_or("a map")?;
     for (key_at, value_at, fault) in [(1, 3, None), (4, 6, None), (8, 10, Some(truncated))] {
         let (key, value) = pairs.next().ok_or("a pair")?;
         let value = value.ok_or("a value")?;
@@ -360,17 +360,17 @@ fn glances_at_a_cut_map(rt: HostRuntime) -> Result<(), Fail> {
 }
 
 #[test]
-fn glances_at_a_broken_item(rt: HostRuntime) -> Result<(), Fail> {
+fn views_a_broken_item(rt: HostRuntime) -> Result<(), Fail> {
     // [1, 24([2, a break, 3
-    let glance = Glance::read(b"\x83\x01\xd8\x18\x82\x02\xff\x03");
+    let partial = PartialView::read(b"\x83\x01\xd8\x18\x82\x02\xff\x03");
     let reserved = CborFault {
         kind: CborKind::Reserved,
         at: 6,
     };
-    assert_eq!(rt; (glance.at(), glance.fault()), (0, Some(reserved)));
-    assert_eq!(rt; glance.count(), Some(3));
-    assert!(rt; glance.pairs().is_none());
-    let mut items = glance.items().ok_or("an array")?;
+    assert_eq!(rt; (partial.at(), partial.fault()), (0, Some(reserved)));
+    assert_eq!(rt; partial.count(), Some(3));
+    assert!(rt; partial.pairs().is_none());
+    let mut items = partial.items().ok_or("an array")?;
     let first = items.next().ok_or("an item")?;
     assert_eq!(rt; (first.at(), first.fault()), (1, None));
     assert_eq!(rt; first.view().ok_or("a number")?.uint(), Some(1));
@@ -386,7 +386,7 @@ fn glances_at_a_broken_item(rt: HostRuntime) -> Result<(), Fail> {
     assert_eq!(rt; (broken.at(), broken.fault()), (6, Some(reserved)));
     assert!(rt; broken.items().is_none());
     // the second key is broken
-    let (key, value) = Glance::read(b"\xa2\x01\x02\x1c\x03")
+    let (key, value) = PartialView::read(b"\xa2\x01\x02\x1c\x03")
         .pairs()
         .ok_or("a map")?
         .nth(1)
@@ -396,13 +396,13 @@ fn glances_at_a_broken_item(rt: HostRuntime) -> Result<(), Fail> {
 }
 
 #[test]
-fn glances_at_a_whole_item(rt: HostRuntime) -> Result<(), Fail> {
+fn views_a_whole_item(rt: HostRuntime) -> Result<(), Fail> {
     // {1: [2, 3]} and a byte
-    let glance = Glance::read(b"\xa1\x01\x82\x02\x03\x00");
-    assert_eq!(rt; glance.fault(), None);
-    let view = glance.view().ok_or("an item")?;
+    let partial = PartialView::read(b"\xa1\x01\x82\x02\x03\x00");
+    assert_eq!(rt; partial.fault(), None);
+    let view = partial.view().ok_or("an item")?;
     assert_eq!(rt; view.span(), (0, 5));
-    let mut pairs = glance.pairs().ok_or("a map")?;
+    let mut pairs = partial.pairs().ok_or("a map")?;
     let (key, value) = pairs.next().ok_or("a pair")?;
     assert_eq!(rt; key.view().ok_or("a key")?.uint(), Some(1));
     let value = value.ok_or("a value")?;

@@ -15,7 +15,7 @@ use crate::heads::{Head, read_head};
 use crate::items::Items;
 use crate::key::Key;
 use crate::pairs::Pairs;
-use crate::walk::skip;
+use crate::walk::{skip, walk};
 
 /// The most levels of nesting that an item may have.
 pub(crate) const MOST_LEVELS: u32 = 32;
@@ -135,7 +135,7 @@ impl<'a> View<'a> {
     /// The number of a tag, and the item under it (major type 6).
     pub fn tag(&self) -> Option<(u64, View<'a>)>
         ensures exact { option_map (λ x. (x.0, tree x.1)) result ≡ tag_of (tree self.now) }
-        ensures placed { option_map (λ x. (x.0, part x.1)) result ≡ tag_in (part self.now) }
+        ensures place { option_map (λ x. (x.0, part x.1)) result ≡ tag_in (part self.now) }
         ensures lies { IfSome result (λ x. LiesIn (part self.now) (part x.1)) }
     {
         match split_head(self.slice) {
@@ -151,13 +151,16 @@ impl<'a> View<'a> {
     pub fn depth(&self) -> u32
         ensures { result ≡ levels (tree self.now) }
     {
-        depth_of(self.slice)
+        match walk(self.slice, MOST_LEVELS) {
+            Ok((depth, _)) => depth,
+            Err(_) => unreachable!(),
+        }
     }
 
     /// The items of an array (major type 4).
     pub fn items(&self) -> Option<Items<'a>>
         ensures exact { option_map trees_left result ≡ items_of (tree self.now) }
-        ensures placed { option_map left result ≡ items_in (part self.now) }
+        ensures place { option_map left result ≡ items_in (part self.now) }
         ensures lie { IfSome result (λ it. AllLieIn (part self.now) (left it)) }
     {
         match split_head(self.slice) {
@@ -172,7 +175,7 @@ impl<'a> View<'a> {
     /// The pairs of a map (major type 5).
     pub fn pairs(&self) -> Option<Pairs<'a>>
         ensures exact { option_map pair_trees_left result ≡ pairs_of (tree self.now) }
-        ensures placed { option_map pairs_left result ≡ pairs_in (part self.now) }
+        ensures place { option_map pairs_left result ≡ pairs_in (part self.now) }
         ensures lie { IfSome result (λ it. PairsLieIn (part self.now) (pairs_left it)) }
     {
         match split_head(self.slice) {
@@ -187,7 +190,7 @@ impl<'a> View<'a> {
     /// The value under a key of a map, or none where the key isn't there or the item is no map.
     pub fn entry(&self, key: Key<'_>) -> Result<Option<View<'a>>, Doubled>
         ensures exact { Gives (option_map tree) result (entry_tree key.entry self.now) }
-        ensures placed { Gives (option_map part) result (entry_part key.entry self.now) }
+        ensures place { Gives (option_map part) result (entry_part key.entry self.now) }
         ensures lies { IfOk result (λ found. IfSome found (λ v. LiesIn (part self.now) (part v))) }
     {
         let Some(pairs) = self.pairs() else {
@@ -221,7 +224,7 @@ impl<'a> View<'a> {
         }
     }
 
-    /// The item at the front of bytes, and what stands behind it.
+    /// The item at the front of bytes, and what follows it.
     pub(crate) fn first(bytes: &'a [u8], at: usize) -> (View<'a>, &'a [u8])
         requires begins { IsTrue (begins bytes.now) }
         requires in_range { at + length bytes.now < 2 ^ 64 }
@@ -240,7 +243,7 @@ impl<'a> View<'a> {
     }
 }
 
-/// The head of an item that was read, and what stands behind it.
+/// The head of an item that was read, and what follows it.
 fn split_head(item: &[u8]) -> (Head, &[u8])
     requires { IsOk (reads item.now) }
     ensures head { head_at item.now ≡ Ok (result.0, result.1.now) }
@@ -252,16 +255,4 @@ fn split_head(item: &[u8]) -> (Head, &[u8])
         Ok(split) => split,
         Err(_) => unreachable!(),
     }
-}
-
-/// How deep an item that was read is nested.
-fn depth_of(item: &[u8]) -> u32
-    requires { IsOk (reads item.now) }
-    ensures { result ≡ levels (tree_of item.now) }
-{
-    let mut depth = 0;
-    while skip(item, depth).is_err() {
-        depth += 1;
-    }
-    depth
 }

@@ -2,7 +2,7 @@
 use Rattle.std.proofs.Common.{◌≡◌, ℕ, ◌^◌, Bool, true, ◌&&◌, ◌==◌, List, [], ◌∷◌, length, Option, Some, None, refl, sym, ap, ◌∙◌, arith}
 use Rattle.std.specs.Prelude.{is_some, nat_le, nat_lt, option_map}
 use Rattle.std.proofs.lemmas.Bool.Decides.{nat_tests}
-use Rattle.cbor_view.specs.Glance.{whole}
+use Rattle.cbor_view.specs.PartialItem.{whole}
 use Rattle.cbor_view.specs.Parts.{Part, uint_in, boolean_in, items_in, pairs_in}
 use Rattle.cbor_view.proofs.ReadParts.{IsRead}
 use Rattle.mdoc_outside.specs.KeyName.{key_text}

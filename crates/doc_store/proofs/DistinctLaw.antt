@@ -2,17 +2,17 @@
 use Rattle.std.proofs.Common.{◌≡◌, ℕ, Bool, true, false, cond, not, ◌&&◌, List, [], ◌∷◌, map, refl, ◌∙◌}
 use Rattle.std.specs.List.{list_any}
 use Rattle.std.specs.Str.{bytes_eq}
-use Rattle.cbor_view.specs.Glance.{Glance}
+use Rattle.cbor_view.specs.PartialItem.{PartialItem}
 use Rattle.doc_store.specs.Fields.{are_distinct}
 use Rattle.doc_store.specs.declared.store_check.StoreCheck.TheVariants as checks
 use Rattle.doc_store.specs.Faults.{fault, again, repeated}
 use Rattle.doc_store.proofs.CleanLaw.{is_clean}
 use Rattle.doc_store.proofs.NameSets.{are_new, new_from_none}
 
-abbrev pub texts_of : List (List ℕ × Glance) → List (List ℕ)
-texts_of xs = map (λ (x : List ℕ × Glance). x.0) xs
+abbrev pub texts_of : List (List ℕ × PartialItem) → List (List ℕ)
+texts_of xs = map (λ (x : List ℕ × PartialItem). x.0) xs
 
-again_clean : (seen : List (List ℕ)) (xs : List (List ℕ × Glance)) → is_clean (again seen xs) ≡ are_new seen (texts_of xs)
+again_clean : (seen : List (List ℕ)) (xs : List (List ℕ × PartialItem)) → is_clean (again seen xs) ≡ are_new seen (texts_of xs)
 again_clean seen [] = refl
 again_clean seen (x ∷ xs) = go (list_any (bytes_eq x.0) seen) (again_clean (x.0 ∷ seen) xs) where
   go : (b : Bool) → is_clean (again (x.0 ∷ seen) xs) ≡ are_new (x.0 ∷ seen) (texts_of xs) →
@@ -21,5 +21,5 @@ again_clean seen (x ∷ xs) = go (list_any (bytes_eq x.0) seen) (again_clean (x.
   go false rest = rest
 
 -- nothing stands a second time exactly where no two are equal
-pub clean_repeated : (xs : List (List ℕ × Glance)) → is_clean (repeated xs) ≡ are_distinct (texts_of xs)
+pub clean_repeated : (xs : List (List ℕ × PartialItem)) → is_clean (repeated xs) ≡ are_distinct (texts_of xs)
 clean_repeated xs = again_clean [] xs ∙ new_from_none (texts_of xs)

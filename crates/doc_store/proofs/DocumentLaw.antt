@@ -4,7 +4,7 @@ use Rattle.std.specs.Prelude.{is_some, nat_le, option_map}
 use Rattle.std.specs.List.{AllByRecursion}
 use Rattle.std.proofs.lemmas.List.{length-map}
 use Rattle.std.proofs.lemmas.Bool.Decides.{nat_tests}
-use Rattle.cbor_view.specs.Glance.{Glance, whole}
+use Rattle.cbor_view.specs.PartialItem.{PartialItem, whole}
 use Rattle.cbor_view.specs.Parts.{Part, uint_in, items_in}
 use Rattle.cbor_view.proofs.ReadParts.{IsRead, items_read}
 use Rattle.mdoc_outside.specs.KeyName.{key_text}
@@ -41,7 +41,7 @@ clean_mac p = go (uint_in p) where
 
 -- ---- its copies
 
-clean_no_copy : (g : Glance) (gs : List Glance) → is_clean (no_copy g gs) ≡ nat_le 1 (length gs)
+clean_no_copy : (g : PartialItem) (gs : List PartialItem) → is_clean (no_copy g gs) ≡ nat_le 1 (length gs)
 clean_no_copy g [] = refl
 clean_no_copy g (copy ∷ copies) = grind (arith, nat_tests)
 

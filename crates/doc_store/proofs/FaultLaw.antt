@@ -5,10 +5,10 @@ use Rattle.std.specs.List.{AllByRecursion}
 use Rattle.std.proofs.lemmas.List.{length-map, map-append}
 use Rattle.cbor_view.specs.declared.cbor_fault.CborFault.{CborFault}
 use Rattle.cbor_view.specs.Tree.{Tree}
-use Rattle.cbor_view.specs.Glance.{Glance, whole, glance, pairs_glanced}
+use Rattle.cbor_view.specs.PartialItem.{PartialItem, whole, front_item, partial_pairs}
 use Rattle.cbor_view.specs.Parts.{Part, part_of, cbor, uint_in, items_in, pairs_in}
 use Rattle.cbor_view.specs.Reading.{reads}
-use Rattle.cbor_view.proofs.GlanceLaws.{read-whole}
+use Rattle.cbor_view.proofs.PartialLaws.{read-whole}
 use Rattle.cbor_view.specs.Spelling.{AreBytes}
 use Rattle.cbor_view.proofs.HeadReading.{AreBytes as BytesAre}
 use Rattle.cbor_view.proofs.ReadParts.{IsRead, items_read}
@@ -43,7 +43,7 @@ clean_version p = go (uint_in p) where
 
 -- ---- the types of the documents
 
-abbrev text_at : Part → List ℕ → List ℕ × Glance
+abbrev text_at : Part → List ℕ → List ℕ × PartialItem
 text_at p text = (text, whole p)
 
 -- the type of a document stands there once
@@ -60,9 +60,9 @@ type_seen p d is = by_pairs (pairs_in p) refl where
       ((o >>= name_in) >>= λ doc_type. behind_type p doc_type) ≡ Some d → texts_of (doc_types (whole p)) ≡ d.doc_type ∷ []
   by_field entries None pairs found e = cc
   by_field entries (Some value) pairs found e =
-      let seen : pairs_glanced (whole p) ≡ Some (both_seen entries) = ap (option_map both_seen) pairs in
+      let seen : partial_pairs (whole p) ≡ Some (both_seen entries) = ap (option_map both_seen) pairs in
       ap (λ (o : Option Entries). texts_of (filter_map with_text (values_of keys.DocType (entries_or_none o)))) seen
-      ∙ ap (λ (gs : List Glance). texts_of (filter_map with_text gs)) (value_seen keys.DocType p entries value pairs found)
+      ∙ ap (λ (gs : List PartialItem). texts_of (filter_map with_text gs)) (value_seen keys.DocType p entries value pairs found)
       ∙ named value (name_in value) refl e
 
   by_pairs : (o : Option (List (Part × Part))) → pairs_in p ≡ o → texts_of (doc_types (whole p)) ≡ d.doc_type ∷ []
@@ -84,7 +84,7 @@ types_seen (p ∷ parts) documents is = go (document p) refl (each document part
   go (Some d) one None known e = cc
   go (Some d) one (Some others) known e =
       let same : d ∷ others ≡ documents = cc in
-      let text : List ℕ × Glance → List ℕ = λ x. x.0 in
+      let text : List ℕ × PartialItem → List ℕ = λ x. x.0 in
       map-append text (doc_types (whole p)) (flat_map doc_types (map whole parts))
       ∙ ap (λ (one : List (List ℕ)). one ++ texts_of (flat_map doc_types (map whole parts))) (type_seen p d one)
       ∙ ap (λ (rest : List (List ℕ)). d.doc_type ∷ rest) (known others refl) ∙ ap types_of same
@@ -97,7 +97,7 @@ distinct_types documents = where_true (are_distinct (types_of documents)) docume
 abbrev documents_of : Option Part → Option Store
 documents_of o = (((o >>= items_in) >>= within 0 16) >>= each document) >>= distinct_types
 
-abbrev documents_told : List Glance → List Fault
+abbrev documents_told : List PartialItem → List Fault
 documents_told gs = flat_map document_faults gs ++ repeated (flat_map doc_types gs) ++ passed limits.Documents 16 gs
 
 types_test : (parts : List Part) (o : Option Store) → each document parts ≡ o →
@@ -153,18 +153,18 @@ store_filed : (bytes : List ℕ) → store bytes ≡ (spelled (cbor bytes) >>= f
 unfolding store
 store_filed bytes = refl
 
-clean_file : (bytes : List ℕ) → BytesAre bytes → (is_clean (cbor_fault (reads bytes)) && is_clean (form_faults (glance bytes))) ≡ is_some (spelled (cbor bytes) >>= filed)
+clean_file : (bytes : List ℕ) → BytesAre bytes → (is_clean (cbor_fault (reads bytes)) && is_clean (form_faults (front_item bytes))) ≡ is_some (spelled (cbor bytes) >>= filed)
 clean_file bytes are = go (reads bytes) refl where
-  go : (r : Result Tree CborFault) → reads bytes ≡ r → (is_clean (cbor_fault r) && is_clean (form_faults (glance bytes))) ≡ is_some (spelled (part_of bytes r) >>= filed)
+  go : (r : Result Tree CborFault) → reads bytes ≡ r → (is_clean (cbor_fault r) && is_clean (form_faults (front_item bytes))) ≡ is_some (spelled (part_of bytes r) >>= filed)
   go (Err f) read = refl
   go (Ok tree) read =
       let file : Part = record { at = 0; bytes = bytes } in
-      ap (λ (g : Glance). is_clean (form_faults g)) (read-whole bytes tree read) ∙ clean_form file (record { are = are; ok = ap is_ok read })
+      ap (λ (g : PartialItem). is_clean (form_faults g)) (read-whole bytes tree read) ∙ clean_form file (record { are = are; ok = ap is_ok read })
 
 -- nothing is wrong with a file exactly where it spells a store
 pub one_verdict : (bytes : List ℕ) → AreBytes bytes → is_none (store_fault bytes) ≡ is_some (store bytes)
 one_verdict bytes are =
-    clean_first (faults bytes) ∙ clean_joined (cbor_fault (reads bytes)) (form_faults (glance bytes)) ∙ clean_file bytes (record { each = are })
+    clean_first (faults bytes) ∙ clean_joined (cbor_fault (reads bytes)) (form_faults (front_item bytes)) ∙ clean_file bytes (record { each = are })
     ∙ sym (ap (λ (o : Option Store). is_some o) (store_filed bytes))
 
 -- a file that is no store has a first fault

@@ -5,7 +5,7 @@ use Rattle.cbor_view.specs.declared.cbor_fault.CborFault.{CborFault}
 use Rattle.cbor_view.specs.declared.doubled.Doubled.{Doubled}
 use Rattle.cbor_view.specs.Tree.{Tree}
 use Rattle.cbor_view.specs.Label.{Words}
-use Rattle.cbor_view.specs.Glance.{whole}
+use Rattle.cbor_view.specs.PartialItem.{whole}
 use Rattle.cbor_view.specs.Reading.{reads}
 use Rattle.cbor_view.specs.Parts.{Part, cbor, part_of, tagged, entry_in, uint_in, bytes_in, text_in}
 use Rattle.cbor_view.proofs.ReadParts.{IsRead, string_moved}

@@ -4,7 +4,7 @@ use Rattle.std.specs.Prelude.{option_map}
 use Rattle.std.specs.List.{AllByRecursion}
 use Rattle.cbor_view.specs.Label.{Words, is_words}
 use Rattle.cbor_view.specs.Label as labels
-use Rattle.cbor_view.specs.Glance.{Glance, whole, both_whole}
+use Rattle.cbor_view.specs.PartialItem.{PartialItem, whole, both_whole}
 use Rattle.cbor_view.specs.Parts.{Part, tree_in, text_in, pairs_in}
 use Rattle.mdoc_outside.specs.KeyName.{key_text}
 use Rattle.mdoc_outside.specs.declared.key_name.KeyName.{KeyName}
@@ -82,14 +82,14 @@ field_under name p entries is =
 pub no_field : (name : KeyName) (p : Part) → pairs_in p ≡ None → field (key_text name) p ≡ None
 no_field name p is = ap (λ (o : Option (List (Part × Part))). once (labels.only_of (labels.values_of tree_in (Words (key_text name)) (labels.entries_or_none o)))) is
 
--- the glance at the value of a field
+-- the value of a field, as a partial item
 pub value_seen : (name : KeyName) (p : Part) (entries : List (Part × Part)) (value : Part) → pairs_in p ≡ Some entries → field (key_text name) p ≡ Some value →
     values_of name (both_seen entries) ≡ whole value ∷ []
 value_seen name p entries value is found =
-    ap (λ (es : Entries). filter_map (λ (entry : Glance × Option Glance). entry.1) es) (entries_seen name entries)
+    ap (λ (es : Entries). filter_map (λ (entry : PartialItem × Option PartialItem). entry.1) es) (entries_seen name entries)
     ∙ go (under_key name entries) (sym (field_under name p entries is) ∙ found) where
       go : (es : List (Part × Part)) → once (labels.only_of (values_under es)) ≡ Some value →
-          filter_map (λ (entry : Glance × Option Glance). entry.1) (both_seen es) ≡ whole value ∷ []
+          filter_map (λ (entry : PartialItem × Option PartialItem). entry.1) (both_seen es) ≡ whole value ∷ []
       go [] e = cc
       go (e ∷ []) one = cc
       go (e ∷ (other ∷ es)) two = cc
@@ -108,7 +108,7 @@ pub record Asked : Type 0 where
   pub law : (value : Part) → IsRead value → is_clean (key.value (whole value)) ≡ test value
 
 clean_under : (asked : Asked) (missing : Fault) (es : List (Part × Part)) → AllByRecursion BothRead es →
-    is_clean (unless (not (is_empty es)) missing ++ (doubled_at (drop 1 (both_seen es)) ++ flat_map asked.key.value (filter_map (λ (entry : Glance × Option Glance). entry.1) (both_seen es))))
+    is_clean (unless (not (is_empty es)) missing ++ (doubled_at (drop 1 (both_seen es)) ++ flat_map asked.key.value (filter_map (λ (entry : PartialItem × Option PartialItem). entry.1) (both_seen es))))
     ≡ holds asked.test (once (labels.only_of (values_under es)))
 clean_under asked missing [] known = refl
 clean_under asked missing (e ∷ []) known =
@@ -121,7 +121,7 @@ clean_key asked p entries is known =
     let name = asked.key.name in
     let missing : Fault = fault (checks.Field name) (whole p) in
     ap (λ (b : Bool). is_clean (unless b missing ++ (doubled_at (drop 1 (entries_of name (both_seen entries))) ++ flat_map asked.key.value (values_of name (both_seen entries))))) (key_seen name entries)
-    ∙ ap (λ (es : Entries). is_clean (unless (not (is_empty (under_key name entries))) missing ++ (doubled_at (drop 1 es) ++ flat_map asked.key.value (filter_map (λ (entry : Glance × Option Glance). entry.1) es)))) (entries_seen name entries)
+    ∙ ap (λ (es : Entries). is_clean (unless (not (is_empty (under_key name entries))) missing ++ (doubled_at (drop 1 es) ++ flat_map asked.key.value (filter_map (λ (entry : PartialItem × Option PartialItem). entry.1) es)))) (entries_seen name entries)
     ∙ clean_under asked missing (under_key name entries) (under_read name entries known)
     ∙ ap (holds asked.test) (sym (field_under name p entries is))
 

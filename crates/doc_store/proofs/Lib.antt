@@ -6,7 +6,7 @@ pub mod DocumentLaw
 pub mod EachPart
 pub mod FaultLaw
 pub mod FirstFaults
-pub mod GlanceKinds
+pub mod PartialKinds
 pub mod HeldItems
 pub mod ItemLaw
 pub mod KeyLaw

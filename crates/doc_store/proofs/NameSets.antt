@@ -10,11 +10,11 @@ use Rattle.std.specs.Ordering.{nat_cmp}
 use Rattle.std.specs.Str.{bytes_eq}
 use Rattle.std.proofs.lemmas.Cmp.{nat_list_eq_equiv}
 use Rattle.std.proofs.lemmas.Map.Text.{is_eq-slice_cmp}
-use Rattle.cbor_view.specs.Glance.{Glance}
+use Rattle.cbor_view.specs.PartialItem.{PartialItem}
 use Rattle.mdoc_outside.specs.KeyName.{key_text}
 use Rattle.mdoc_outside.specs.declared.key_name.KeyName.{KeyName}
 use Rattle.doc_store.specs.Fields.{are_distinct}
-use Rattle.doc_store.specs.Faults.{Entries, again, is_text, text_glanced, values_of, with_text}
+use Rattle.doc_store.specs.Faults.{Entries, again, is_text, text_if_whole, values_of, with_text}
 
 -- ---- the set
 
@@ -57,17 +57,17 @@ with_one : (x : List ℕ) (seen others : List (List ℕ)) → AreSame seen other
 with_one x seen others same name = ap (λ b. bytes_eq name x || b) (same name)
 
 -- what was seen counts by its names alone
-pub again_same : (xs : List (List ℕ × Glance)) (seen others : List (List ℕ)) → AreSame seen others → again seen xs ≡ again others xs
+pub again_same : (xs : List (List ℕ × PartialItem)) (seen others : List (List ℕ)) → AreSame seen others → again seen xs ≡ again others xs
 again_same [] seen others same = refl
 again_same (x ∷ xs) seen others same = rw (same x.0, again_same xs (x.0 ∷ seen) (x.0 ∷ others) (with_one x.0 seen others same)) refl
 
 -- a name that is new
-pub again_next : (seen new : List (List ℕ)) (x : List ℕ × Glance) (xs : List (List ℕ × Glance)) → list_any (bytes_eq x.0) seen ≡ false →
+pub again_next : (seen new : List (List ℕ)) (x : List ℕ × PartialItem) (xs : List (List ℕ × PartialItem)) → list_any (bytes_eq x.0) seen ≡ false →
     ((name : List ℕ) → list_any (bytes_eq name) new ≡ (bytes_eq name x.0 || list_any (bytes_eq name) seen)) → again seen (x ∷ xs) ≡ again new xs
 again_next seen new x xs unseen said = rw unseen (again_same xs (x.0 ∷ seen) new (λ name. sym (said name)))
 
 -- a key of a map whose value is a text
-pub text_next : (name : KeyName) (key value : Glance) (entries : Entries) (text : List ℕ) → is_text (key_text name) (text_glanced key) ≡ true → text_glanced value ≡ Some text →
+pub text_next : (name : KeyName) (key value : PartialItem) (entries : Entries) (text : List ℕ) → is_text (key_text name) (text_if_whole key) ≡ true → text_if_whole value ≡ Some text →
     filter_map with_text (values_of name ((key, Some value) ∷ entries)) ≡ (text, value) ∷ filter_map with_text (values_of name entries)
 text_next name key value entries text is said = rw (is, said) refl
 

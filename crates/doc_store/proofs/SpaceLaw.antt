@@ -3,7 +3,7 @@ use Rattle.std.proofs.Common.{◌≡◌, ℕ, Bool, true, false, ◌&&◌, List,
 use Rattle.std.specs.Prelude.{is_some, nat_le, option_map}
 use Rattle.std.specs.List.{AllByRecursion}
 use Rattle.std.proofs.lemmas.List.{length-map, length-append}
-use Rattle.cbor_view.specs.Glance.{Glance, whole, both_whole}
+use Rattle.cbor_view.specs.PartialItem.{PartialItem, whole, both_whole}
 use Rattle.cbor_view.specs.Parts.{Part, text_in, items_in, pairs_in}
 use Rattle.cbor_view.proofs.ReadParts.{IsRead, BothRead, items_read, pairs_read}
 use Rattle.mdoc_outside.specs.OptionSteps.{◌>>=◌, where_true, each}
@@ -14,7 +14,7 @@ use Rattle.doc_store.specs.Item.{Item, item}
 use Rattle.doc_store.specs.declared.store_check.StoreCheck.{StoreCheck}
 use Rattle.doc_store.specs.declared.store_check.StoreCheck.TheVariants as checks
 use Rattle.doc_store.specs.Store.{name_in, within, named_item, namespace, spread, items_of}
-use Rattle.doc_store.specs.Faults.{fault, if_kind, of_kind, text_glanced, name_limit, with_text, repeated, passed, item_faults, item_name, listed, space_items, space_value, space_faults, keys_in, entries_faults, spaces_faults}
+use Rattle.doc_store.specs.Faults.{fault, if_kind, of_kind, text_if_whole, name_limit, with_text, repeated, passed, item_faults, item_name, listed, space_items, space_value, space_faults, keys_in, entries_faults, spaces_faults}
 use Rattle.doc_store.proofs.EachPart.{each_length}
 use Rattle.doc_store.proofs.CleanLaw.{is_clean, and_true, and_false, and_assoc, and_same, from_zero, clean_joined, clean_unless, clean_passed, some_where, clean_each}
 use Rattle.doc_store.proofs.DistinctLaw.{texts_of, clean_repeated}
@@ -34,7 +34,7 @@ abbrev small : List ℕ → Bool
 small name = nat_le (length name) 128
 
 -- a name
-pub clean_name : (check : StoreCheck) (p : Part) → is_clean (of_kind check text_glanced (name_limit (whole p)) (whole p)) ≡ is_some (name_in p)
+pub clean_name : (check : StoreCheck) (p : Part) → is_clean (of_kind check text_if_whole (name_limit (whole p)) (whole p)) ≡ is_some (name_in p)
 clean_name check p = go (text_in p) where
   go : (o : Option (List ℕ)) → is_clean (if_kind (fault check (whole p) ∷ []) (name_limit (whole p)) o) ≡ is_some (o >>= λ name. where_true (small name) name)
   go None = refl
@@ -58,7 +58,7 @@ names_of items = map (λ (named : Named). named.0) items
 abbrev raws_of : List Named → List (List ℕ)
 raws_of items = map (λ (named : Named). named.1) items
 
-abbrev name_at : Part → List ℕ → List ℕ × Glance
+abbrev name_at : Part → List ℕ → List ℕ × PartialItem
 name_at p name = (name, whole p)
 
 item_named : (p : Part) (named : Named) → named_item p ≡ Some named → item_name (whole p) ≡ Some (named.0, whole p)
@@ -98,7 +98,7 @@ clean_value value read = go (items_in value) refl where
   last parts (Some items) is = ap are_distinct (items_named parts items is) ∙ sym (some_where (distinct_items items) items)
 
   go : (o : Option (List Part)) → items_in value ≡ o →
-      is_clean (if_kind (fault (checks.Field keys.NameSpaces) (whole value) ∷ []) (λ (gs : List Glance). flat_map item_faults gs ++ repeated (filter_map item_name gs)) (option_map (map whole) o))
+      is_clean (if_kind (fault (checks.Field keys.NameSpaces) (whole value) ∷ []) (λ (gs : List PartialItem). flat_map item_faults gs ++ repeated (filter_map item_name gs)) (option_map (map whole) o))
       ≡ is_some ((o >>= each named_item) >>= λ items. where_true (distinct_items items) items)
   go None is = refl
   go (Some parts) is =
@@ -110,7 +110,7 @@ clean_value value read = go (items_in value) refl where
 
 clean_space : (entry : Part × Part) → BothRead entry → is_clean (space_faults (both_whole entry)) ≡ is_some (namespace entry)
 clean_space entry read =
-    clean_joined (of_kind (checks.Field keys.NameSpaces) text_glanced (name_limit (whole entry.0)) (whole entry.0)) (space_value (Some (whole entry.1)))
+    clean_joined (of_kind (checks.Field keys.NameSpaces) text_if_whole (name_limit (whole entry.0)) (whole entry.0)) (space_value (Some (whole entry.1)))
     ∙ and_same _ _ _ _ (clean_name (checks.Field keys.NameSpaces) entry.0) (clean_value entry.1 read.1)
     ∙ go (name_in entry.0) (items_in entry.1 >>= each named_item) where
       go : (n : Option (List ℕ)) (o : Option (List Named)) →
@@ -221,7 +221,7 @@ few_spaces entries true =
 
 keys_few : (entries : List (Part × Part)) → nat_le (length (keys_in (both_seen entries))) 16 ≡ (nat_le 0 (length entries) && nat_le (length entries) 16)
 keys_few entries =
-    let keys_length : length (keys_in (both_seen entries)) ≡ length entries = length-map (both_seen entries) (λ (entry : Glance × Option Glance). entry.0) ∙ length-map entries both_whole in
+    let keys_length : length (keys_in (both_seen entries)) ≡ length entries = length-map (both_seen entries) (λ (entry : PartialItem × Option PartialItem). entry.0) ∙ length-map entries both_whole in
     ap (λ (n : ℕ). nat_le n 16) keys_length ∙ sym (few_enough 16 entries)
 
 clean_entries : (entries : List (Part × Part)) → AllByRecursion BothRead entries → is_clean (entries_faults (both_seen entries)) ≡ is_some (items_of entries)

@@ -8,7 +8,7 @@ use Rattle.cbor_view.specs.declared.cbor_fault.CborFault.{CborFault}
 use Rattle.cbor_view.specs.declared.doubled.Doubled.{Doubled}
 use Rattle.cbor_view.specs.Tree.{Tree}
 use Rattle.cbor_view.specs.Label.{Words}
-use Rattle.cbor_view.specs.Glance.{Glance, broken, glance, place_in, whole_in, count_glanced, items_glanced, pairs_glanced, tag_glanced}
+use Rattle.cbor_view.specs.PartialItem.{PartialItem, broken, front_item, place_in, whole_in, declared_count, partial_items, partial_pairs, partial_tag}
 use Rattle.cbor_view.specs.Parts.{Part, cbor, tagged, entry_in, uint_in, bytes_in, text_in, boolean_in}
 use Rattle.cbor_view.specs.Reading.{reads}
 use Rattle.mdoc_outside.specs.KeyName.{key_text}
@@ -24,17 +24,17 @@ use Rattle.doc_store.specs.declared.item_fault.ItemFault.TheVariants as items
 use Rattle.doc_store.specs.declared.store_check.StoreCheck.{StoreCheck}
 use Rattle.doc_store.specs.declared.store_check.StoreCheck.TheVariants as checks
 
-abbrev pub fault : StoreCheck → Glance → Fault
+abbrev pub fault : StoreCheck → PartialItem → Fault
 fault check g = record { check = check; at = place_in g }
 
 -- ---- kinds
 
 -- an item of another kind is wrong at its head; one whose head, string or count is broken is of no kind
-abbrev pub is_broken : Glance → Bool
+abbrev pub is_broken : PartialItem → Bool
 is_broken (broken f) = true
 is_broken g = false
 
-abbrev pub other_kind : StoreCheck → Glance → List Fault
+abbrev pub other_kind : StoreCheck → PartialItem → List Fault
 other_kind check g = if is_broken g then [] else fault check g ∷ []
 
 -- what is wrong with an item that has to be of a kind
@@ -42,18 +42,18 @@ abbrev pub if_kind : {A : Type 0} → List Fault → (A → List Fault) → Opti
 if_kind other inside None = other
 if_kind other inside (Some x) = inside x
 
-abbrev pub of_kind : {A : Type 0} → StoreCheck → (Glance → Option A) → (A → List Fault) → Glance → List Fault
+abbrev pub of_kind : {A : Type 0} → StoreCheck → (PartialItem → Option A) → (A → List Fault) → PartialItem → List Fault
 of_kind check reading inside g = if_kind (other_kind check g) inside (reading g)
 
 -- a whole number, text or truth value
-abbrev pub uint_glanced : Glance → Option ℕ
-uint_glanced g = option_and_then uint_in (whole_in g)
+abbrev pub uint_if_whole : PartialItem → Option ℕ
+uint_if_whole g = option_and_then uint_in (whole_in g)
 
-abbrev pub text_glanced : Glance → Option (List ℕ)
-text_glanced g = option_and_then text_in (whole_in g)
+abbrev pub text_if_whole : PartialItem → Option (List ℕ)
+text_if_whole g = option_and_then text_in (whole_in g)
 
-abbrev pub boolean_glanced : Glance → Option Bool
-boolean_glanced g = option_and_then boolean_in (whole_in g)
+abbrev pub boolean_if_whole : PartialItem → Option Bool
+boolean_if_whole g = option_and_then boolean_in (whole_in g)
 
 -- a fault unless a test passes
 abbrev pub unless : Bool → Fault → List Fault
@@ -66,51 +66,51 @@ nothing x = []
 -- ---- limits and names
 
 -- the item that passes a limit on a list
-abbrev pub passed_at : LimitName → ℕ → Option Glance → List Fault
+abbrev pub passed_at : LimitName → ℕ → Option PartialItem → List Fault
 passed_at limit most None = []
 passed_at limit most (Some g) = fault (checks.Limit limit (most + 1)) g ∷ []
 
-abbrev pub passed : LimitName → ℕ → List Glance → List Fault
+abbrev pub passed : LimitName → ℕ → List PartialItem → List Fault
 passed limit most gs = passed_at limit most (slice_get gs most)
 
 -- a name of more than 128 bytes
-abbrev pub name_limit : Glance → List ℕ → List Fault
+abbrev pub name_limit : PartialItem → List ℕ → List Fault
 name_limit g name = unless (nat_le (length name) 128) (fault (checks.Limit limits.Name (length name)) g)
 
 -- what stands there a second time: the first text that is equal to one in front of it
-abbrev pub again : List (List ℕ) → List (List ℕ × Glance) → List Fault
+abbrev pub again : List (List ℕ) → List (List ℕ × PartialItem) → List Fault
 again seen [] = []
 again seen (x ∷ xs) = if list_any (bytes_eq x.0) seen then fault checks.Doubled x.1 ∷ [] else again (x.0 ∷ seen) xs
 
-abbrev pub repeated : List (List ℕ × Glance) → List Fault
+abbrev pub repeated : List (List ℕ × PartialItem) → List Fault
 repeated xs = again [] xs
 
--- a text beside its glance, where it is whole
-abbrev pub with_text : Glance → Option (List ℕ × Glance)
-with_text g = option_map (λ text. (text, g)) (text_glanced g)
+-- a text beside its item, where it is whole
+abbrev pub with_text : PartialItem → Option (List ℕ × PartialItem)
+with_text g = option_map (λ text. (text, g)) (text_if_whole g)
 
 -- ---- the maps of the form
 
 -- a key of a map, and what may be wrong with its value
 pub record Key : Type 0 where
   pub name : KeyName
-  pub value : Glance → List Fault
+  pub value : PartialItem → List Fault
 
 abbrev pub Entries : Type 0
-Entries = List (Glance × Option Glance)
+Entries = List (PartialItem × Option PartialItem)
 
 abbrev pub is_text : List ℕ → Option (List ℕ) → Bool
 is_text words None = false
 is_text words (Some text) = bytes_eq text words
 
-abbrev pub is_key : KeyName → Glance × Option Glance → Bool
-is_key name entry = is_text (key_text name) (text_glanced entry.0)
+abbrev pub is_key : KeyName → PartialItem × Option PartialItem → Bool
+is_key name entry = is_text (key_text name) (text_if_whole entry.0)
 
 abbrev pub entries_of : KeyName → Entries → Entries
 entries_of name entries = filter (is_key name) entries
 
-abbrev pub values_of : KeyName → Entries → List Glance
-values_of name entries = filter_map (λ (entry : Glance × Option Glance). entry.1) (entries_of name entries)
+abbrev pub values_of : KeyName → Entries → List PartialItem
+values_of name entries = filter_map (λ (entry : PartialItem × Option PartialItem). entry.1) (entries_of name entries)
 
 -- a key that stands twice is wrong where it stands again; one that is missing, in a map that is whole, at the map
 abbrev pub doubled_at : Entries → List Fault
@@ -123,15 +123,15 @@ key_again name entries = doubled_at (drop 1 (entries_of name entries))
 abbrev pub has_key : KeyName → Entries → Bool
 has_key name entries = list_any (is_key name) entries
 
-abbrev pub key_missing : Glance → KeyName → Entries → List Fault
+abbrev pub key_missing : PartialItem → KeyName → Entries → List Fault
 key_missing g name entries = unless (not (is_some (whole_in g)) || has_key name entries) (fault (checks.Field name) g)
 
-abbrev pub key_faults : Glance → Entries → Key → List Fault
+abbrev pub key_faults : PartialItem → Entries → Key → List Fault
 key_faults g entries key = key_missing g key.name entries ++ (key_again key.name entries ++ flat_map key.value (values_of key.name entries))
 
 -- a map of the form, by its keys, of which there is a first
-abbrev pub map_faults : Key → List Key → Glance → List Fault
-map_faults key others g = of_kind (checks.Field key.name) pairs_glanced (λ entries. flat_map (key_faults g entries) (key ∷ others)) g
+abbrev pub map_faults : Key → List Key → PartialItem → List Fault
+map_faults key others g = of_kind (checks.Field key.name) partial_pairs (λ entries. flat_map (key_faults g entries) (key ∷ others)) g
 
 -- ---- a stored item
 
@@ -172,99 +172,99 @@ abbrev pub item_fault : Part → Option ItemFault
 item_fault part = tagged_fault (option_and_then bytes_in (tagged 24 part))
 
 -- a limit that its name or its value passes
-abbrev pub value_limit : Glance → ℕ → List Fault
+abbrev pub value_limit : PartialItem → ℕ → List Fault
 value_limit g bytes = unless (nat_le bytes 262144) (fault (checks.Limit limits.Value bytes) g)
 
-abbrev pub item_limits : Glance → Option Item → List Fault
+abbrev pub item_limits : PartialItem → Option Item → List Fault
 item_limits g None = []
 item_limits g (Some read) =
     name_limit g read.name ++ value_limit g (length read.value)
 
-abbrev pub whole_item : Glance → Part → Option ItemFault → List Fault
+abbrev pub whole_item : PartialItem → Part → Option ItemFault → List Fault
 whole_item g part None = item_limits g (item part.bytes)
 whole_item g part (Some f) = fault (checks.Item f) g ∷ []
 
 -- where it isn't whole, a string that is broken under the tag is of no other kind
-abbrev pub under_tag : Glance → ℕ × Glance → List Fault
+abbrev pub under_tag : PartialItem → ℕ × PartialItem → List Fault
 under_tag g inside = unless (inside.0 == 24 && is_broken inside.1) (fault (checks.Item items.NotTagged) g)
 
-abbrev pub cut_item : Glance → List Fault
-cut_item g = if_kind (other_kind (checks.Item items.NotTagged) g) (under_tag g) (tag_glanced g)
+abbrev pub cut_item : PartialItem → List Fault
+cut_item g = if_kind (other_kind (checks.Item items.NotTagged) g) (under_tag g) (partial_tag g)
 
-abbrev pub item_faults : Glance → List Fault
+abbrev pub item_faults : PartialItem → List Fault
 item_faults g = if_kind (cut_item g) (λ part. whole_item g part (item_fault part)) (whole_in g)
 
 -- its name, where it is an item
-abbrev pub item_name : Glance → Option (List ℕ × Glance)
+abbrev pub item_name : PartialItem → Option (List ℕ × PartialItem)
 item_name g = option_map (λ (read : Item). (read.name, g)) (option_and_then (λ (part : Part). item part.bytes) (whole_in g))
 
 -- ---- the namespaces of a copy
 
-abbrev pub listed : Option (List Glance) → List Glance
+abbrev pub listed : Option (List PartialItem) → List PartialItem
 listed None = []
 listed (Some gs) = gs
 
-abbrev pub space_items : Glance × Option Glance → List Glance
-space_items entry = listed (option_and_then items_glanced entry.1)
+abbrev pub space_items : PartialItem × Option PartialItem → List PartialItem
+space_items entry = listed (option_and_then partial_items entry.1)
 
-abbrev pub items_faults : List Glance → List Fault
+abbrev pub items_faults : List PartialItem → List Fault
 items_faults gs = flat_map item_faults gs ++ repeated (filter_map item_name gs)
 
-abbrev pub space_value : Option Glance → List Fault
+abbrev pub space_value : Option PartialItem → List Fault
 space_value None = []
-space_value (Some g) = of_kind (checks.Field keys.NameSpaces) items_glanced items_faults g
+space_value (Some g) = of_kind (checks.Field keys.NameSpaces) partial_items items_faults g
 
-abbrev pub name_faults : Glance → List Fault
-name_faults g = of_kind (checks.Field keys.NameSpaces) text_glanced (name_limit g) g
+abbrev pub name_faults : PartialItem → List Fault
+name_faults g = of_kind (checks.Field keys.NameSpaces) text_if_whole (name_limit g) g
 
-abbrev pub space_faults : Glance × Option Glance → List Fault
+abbrev pub space_faults : PartialItem × Option PartialItem → List Fault
 space_faults entry = name_faults entry.0 ++ space_value entry.1
 
-abbrev pub keys_in : Entries → List Glance
-keys_in entries = map (λ (entry : Glance × Option Glance). entry.0) entries
+abbrev pub keys_in : Entries → List PartialItem
+keys_in entries = map (λ (entry : PartialItem × Option PartialItem). entry.0) entries
 
 abbrev pub entries_faults : Entries → List Fault
 entries_faults entries =
     flat_map space_faults entries ++ repeated (filter_map with_text (keys_in entries))
     ++ passed limits.Namespaces 16 (keys_in entries) ++ passed limits.Items 512 (flat_map space_items entries)
 
-abbrev pub spaces_faults : Glance → List Fault
-spaces_faults g = of_kind (checks.Field keys.NameSpaces) pairs_glanced entries_faults g
+abbrev pub spaces_faults : PartialItem → List Fault
+spaces_faults g = of_kind (checks.Field keys.NameSpaces) partial_pairs entries_faults g
 
 -- ---- a copy, a document, the store
 
-abbrev pub key_number : Glance → List Fault
-key_number g = of_kind (checks.Field keys.Key) uint_glanced (λ n. unless (nat_lt n (2 ^ 32)) (fault (checks.Field keys.Key) g)) g
+abbrev pub key_number : PartialItem → List Fault
+key_number g = of_kind (checks.Field keys.Key) uint_if_whole (λ n. unless (nat_lt n (2 ^ 32)) (fault (checks.Field keys.Key) g)) g
 
-abbrev pub used_faults : Glance → List Fault
-used_faults g = of_kind (checks.Field keys.Used) boolean_glanced nothing g
+abbrev pub used_faults : PartialItem → List Fault
+used_faults g = of_kind (checks.Field keys.Used) boolean_if_whole nothing g
 
-abbrev pub auth_of_issuer : Glance → List Fault
-auth_of_issuer g = of_kind (checks.Field keys.IssuerAuth) count_glanced (λ n. unless (n == 4) (fault (checks.Field keys.IssuerAuth) g)) g
+abbrev pub auth_of_issuer : PartialItem → List Fault
+auth_of_issuer g = of_kind (checks.Field keys.IssuerAuth) declared_count (λ n. unless (n == 4) (fault (checks.Field keys.IssuerAuth) g)) g
 
-abbrev pub copy_faults : Glance → List Fault
+abbrev pub copy_faults : PartialItem → List Fault
 copy_faults g = map_faults
     (record { name = keys.Key; value = key_number })
     (record { name = keys.Used; value = used_faults } ∷ record { name = keys.IssuerAuth; value = auth_of_issuer }
     ∷ record { name = keys.NameSpaces; value = spaces_faults } ∷ []) g
 
-abbrev pub doc_type_faults : Glance → List Fault
-doc_type_faults g = of_kind (checks.Field keys.DocType) text_glanced (name_limit g) g
+abbrev pub doc_type_faults : PartialItem → List Fault
+doc_type_faults g = of_kind (checks.Field keys.DocType) text_if_whole (name_limit g) g
 
-abbrev pub auth_faults : Glance → List Fault
-auth_faults g = of_kind (checks.Field keys.Auth) uint_glanced (λ n. unless (nat_le n 1) (fault (checks.Field keys.Auth) g)) g
+abbrev pub auth_faults : PartialItem → List Fault
+auth_faults g = of_kind (checks.Field keys.Auth) uint_if_whole (λ n. unless (nat_le n 1) (fault (checks.Field keys.Auth) g)) g
 
-abbrev pub no_copy : Glance → List Glance → List Fault
+abbrev pub no_copy : PartialItem → List PartialItem → List Fault
 no_copy g [] = fault (checks.Field keys.Copies) g ∷ []
 no_copy g (copy ∷ others) = []
 
-abbrev pub copy_list_faults : Glance → List Glance → List Fault
+abbrev pub copy_list_faults : PartialItem → List PartialItem → List Fault
 copy_list_faults g gs = no_copy g gs ++ flat_map copy_faults gs ++ passed limits.Copies 64 gs
 
-abbrev pub copies_faults : Glance → List Fault
-copies_faults g = of_kind (checks.Field keys.Copies) items_glanced (copy_list_faults g) g
+abbrev pub copies_faults : PartialItem → List Fault
+copies_faults g = of_kind (checks.Field keys.Copies) partial_items (copy_list_faults g) g
 
-abbrev pub document_faults : Glance → List Fault
+abbrev pub document_faults : PartialItem → List Fault
 document_faults g = map_faults
     (record { name = keys.DocType; value = doc_type_faults })
     (record { name = keys.Auth; value = auth_faults } ∷ record { name = keys.Copies; value = copies_faults } ∷ []) g
@@ -273,19 +273,19 @@ abbrev pub entries_or_none : Option Entries → Entries
 entries_or_none None = []
 entries_or_none (Some entries) = entries
 
-abbrev pub doc_types : Glance → List (List ℕ × Glance)
-doc_types g = filter_map with_text (values_of keys.DocType (entries_or_none (pairs_glanced g)))
+abbrev pub doc_types : PartialItem → List (List ℕ × PartialItem)
+doc_types g = filter_map with_text (values_of keys.DocType (entries_or_none (partial_pairs g)))
 
-abbrev pub version_faults : Glance → List Fault
-version_faults g = of_kind (checks.Field keys.Version) uint_glanced (λ n. unless (n == 1) (fault checks.Version g)) g
+abbrev pub version_faults : PartialItem → List Fault
+version_faults g = of_kind (checks.Field keys.Version) uint_if_whole (λ n. unless (n == 1) (fault checks.Version g)) g
 
-abbrev pub document_list_faults : List Glance → List Fault
+abbrev pub document_list_faults : List PartialItem → List Fault
 document_list_faults gs = flat_map document_faults gs ++ repeated (flat_map doc_types gs) ++ passed limits.Documents 16 gs
 
-abbrev pub documents_faults : Glance → List Fault
-documents_faults g = of_kind (checks.Field keys.Documents) items_glanced document_list_faults g
+abbrev pub documents_faults : PartialItem → List Fault
+documents_faults g = of_kind (checks.Field keys.Documents) partial_items document_list_faults g
 
-abbrev pub form_faults : Glance → List Fault
+abbrev pub form_faults : PartialItem → List Fault
 form_faults g = map_faults (record { name = keys.Version; value = version_faults }) (record { name = keys.Documents; value = documents_faults } ∷ []) g
 
 -- the fault of its CBOR, of which there is at most one
@@ -294,7 +294,7 @@ cbor_fault (Ok tree) = []
 cbor_fault (Err f) = record { check = checks.Cbor f.kind; at = f.at } ∷ []
 
 abbrev pub faults : List ℕ → List Fault
-faults bytes = cbor_fault (reads bytes) ++ form_faults (glance bytes)
+faults bytes = cbor_fault (reads bytes) ++ form_faults (front_item bytes)
 
 -- ---- the first of them
 

@@ -2,7 +2,7 @@
 use Rattle.std.specs.Prelude.{ℕ, List, [], ◌∷◌, Bool, Option, Some, None, map}
 use Rattle.std.specs.List.{list_any}
 use Rattle.std.specs.Str.{bytes_eq}
-use Rattle.cbor_view.specs.Glance.{Glance}
+use Rattle.cbor_view.specs.PartialItem.{PartialItem}
 use Rattle.doc_store.specs.declared.first_fault.Fault.{Fault}
 use Rattle.doc_store.specs.declared.names.Names.{Names}
 use Rattle.doc_store.specs.Faults.{again}
@@ -15,6 +15,6 @@ abbrev pub was_seen : Names → List ℕ → Bool
 was_seen names name = list_any (bytes_eq name) (names_seen names)
 
 -- what stands again in a list, where nothing did in front of it
-abbrev pub again_behind : Option Fault → Names → List (List ℕ × Glance) → List Fault
+abbrev pub again_behind : Option Fault → Names → List (List ℕ × PartialItem) → List Fault
 again_behind (Some f) names others = f ∷ []
 again_behind None names others = again (names_seen names) others

@@ -1,8 +1,8 @@
 //! What is wrong with the copies of a document.
 
 ghost use Rattle.std.specs.Prelude.{◌≡◌};
-ghost use Rattle.cbor_view.specs.Glanced.{glanced};
-ghost use Rattle.cbor_view.specs.GlanceItems.{glances_left};
+ghost use Rattle.cbor_view.specs.PartialView.{partial_item};
+ghost use Rattle.cbor_view.specs.PartialItems.{partial_items_left};
 ghost use Rattle.mdoc_outside.specs.declared.key_name.KeyName.TheVariants as keys;
 ghost use Rattle.doc_store.specs.Faults.{copies_faults, copy_faults, copy_list_faults, first_fault, no_copy};
 ghost use Rattle.doc_store.specs.Found.{Finds};
@@ -16,7 +16,7 @@ use crate::limits::MOST_COPIES;
 use crate::namespace_faults::NameSpaces;
 use crate::passed::items_passed;
 use crate::simple_keys::{DeviceKeyNumber, IssuerAuth, Used};
-use cbor_view::{Glance, GlanceItems};
+use cbor_view::{PartialItems, PartialView};
 use mdoc_outside::{KeyName, LimitName, Memory};
 use std::alloc::Global;
 
@@ -27,7 +27,7 @@ impl Judge for Copy {
     ghost faults = { λ _. copy_faults };
 
     #[tactic(auto, using(crate::proofs::FirstFaults::first_joined, crate::proofs::FirstFaults::sooner_none))]
-    fn fault_of(&self, alloc: Global, item: &Glance<'_>) -> Result<Option<Fault>, Memory> {
+    fn fault_of(&self, alloc: Global, item: &PartialView<'_>) -> Result<Option<Fault>, Memory> {
         let Some(entries) = item.pairs() else {
             return Ok(other_kind(StoreCheck::Field(KeyName::Key), item));
         };
@@ -40,8 +40,8 @@ impl Judge for Copy {
 }
 
 /// A list of no copies.
-fn no_copy(list: &Glance<'_>, copies: GlanceItems<'_>) -> Option<Fault>
-    ensures { result ≡ first_fault (no_copy (glanced list.now) (glances_left copies.entry)) }
+fn no_copy(list: &PartialView<'_>, copies: PartialItems<'_>) -> Option<Fault>
+    ensures { result ≡ first_fault (no_copy (partial_item list.now) (partial_items_left copies.entry)) }
 {
     let mut rest = copies;
     match rest.next() {
@@ -54,10 +54,10 @@ fn no_copy(list: &Glance<'_>, copies: GlanceItems<'_>) -> Option<Fault>
 #[tactic(auto, using(crate::proofs::FirstFaults::first_joined, crate::proofs::FirstFaults::sooner_none))]
 fn copies_fault(
     alloc: Global,
-    list: &Glance<'_>,
-    copies: GlanceItems<'_>,
+    list: &PartialView<'_>,
+    copies: PartialItems<'_>,
 ) -> Result<Option<Fault>, Memory>
-    ensures { Finds result (copy_list_faults (glanced list.now) (glances_left copies.entry)) }
+    ensures { Finds result (copy_list_faults (partial_item list.now) (partial_items_left copies.entry)) }
 {
     let of_each = of_items(&Copy, alloc, copies)?;
     let past = items_passed(copies, LimitName::Copies, MOST_COPIES);
@@ -74,7 +74,7 @@ impl FormKey for Copies {
         KeyName::Copies
     }
 
-    fn fault_of(&self, alloc: Global, value: &Glance<'_>) -> Result<Option<Fault>, Memory> {
+    fn fault_of(&self, alloc: Global, value: &PartialView<'_>) -> Result<Option<Fault>, Memory> {
         match value.items() {
             Some(copies) => copies_fault(alloc, value, copies),
             None => Ok(other_kind(StoreCheck::Field(KeyName::Copies), value)),

@@ -1,6 +1,6 @@
 //! What is wrong with the documents of a store file.
 
-ghost use Rattle.cbor_view.specs.GlanceItems.{glances_left};
+ghost use Rattle.cbor_view.specs.PartialItems.{partial_items_left};
 ghost use Rattle.mdoc_outside.specs.declared.key_name.KeyName.TheVariants as keys;
 ghost use Rattle.doc_store.specs.Faults.{document_faults, document_list_faults, documents_faults};
 ghost use Rattle.doc_store.specs.Found.{Finds};
@@ -15,7 +15,7 @@ use crate::limits::MOST_DOCUMENTS;
 use crate::passed::items_passed;
 use crate::repeated::doc_types_again;
 use crate::simple_keys::{Auth, DocType};
-use cbor_view::{Glance, GlanceItems};
+use cbor_view::{PartialItems, PartialView};
 use mdoc_outside::{KeyName, LimitName, Memory};
 use std::alloc::Global;
 
@@ -26,7 +26,7 @@ impl Judge for Document {
     ghost faults = { λ _. document_faults };
 
     #[tactic(auto, using(crate::proofs::FirstFaults::first_joined, crate::proofs::FirstFaults::sooner_none))]
-    fn fault_of(&self, alloc: Global, item: &Glance<'_>) -> Result<Option<Fault>, Memory> {
+    fn fault_of(&self, alloc: Global, item: &PartialView<'_>) -> Result<Option<Fault>, Memory> {
         let Some(entries) = item.pairs() else {
             return Ok(other_kind(StoreCheck::Field(KeyName::DocType), item));
         };
@@ -39,8 +39,8 @@ impl Judge for Document {
 
 /// What is wrong with a list of documents.
 #[tactic(auto, using(crate::proofs::FirstFaults::first_joined, crate::proofs::FirstFaults::sooner_none))]
-fn documents_fault(alloc: Global, documents: GlanceItems<'_>) -> Result<Option<Fault>, Memory>
-    ensures { Finds result (document_list_faults (glances_left documents.entry)) }
+fn documents_fault(alloc: Global, documents: PartialItems<'_>) -> Result<Option<Fault>, Memory>
+    ensures { Finds result (document_list_faults (partial_items_left documents.entry)) }
 {
     let of_each = of_items(&Document, alloc, documents)?;
     let again = doc_types_again(alloc, documents)?;
@@ -58,7 +58,7 @@ impl FormKey for Documents {
         KeyName::Documents
     }
 
-    fn fault_of(&self, alloc: Global, value: &Glance<'_>) -> Result<Option<Fault>, Memory> {
+    fn fault_of(&self, alloc: Global, value: &PartialView<'_>) -> Result<Option<Fault>, Memory> {
         match value.items() {
             Some(documents) => documents_fault(alloc, documents),
             None => Ok(other_kind(StoreCheck::Field(KeyName::Documents), value)),

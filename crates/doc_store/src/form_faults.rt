@@ -1,8 +1,8 @@
 //! What is wrong with a store file.
 
 ghost use Rattle.std.specs.Prelude.{◌≡◌};
-ghost use Rattle.cbor_view.specs.Glance.{glance};
-ghost use Rattle.cbor_view.specs.Glanced.{glanced};
+ghost use Rattle.cbor_view.specs.PartialItem.{front_item};
+ghost use Rattle.cbor_view.specs.PartialView.{partial_item};
 ghost use Rattle.cbor_view.specs.Reading.{reads};
 ghost use Rattle.doc_store.specs.Faults.{cbor_fault, faults, first_fault, form_faults};
 ghost use Rattle.doc_store.specs.Found.{Finds};
@@ -13,14 +13,14 @@ use crate::first_fault::{Fault, sooner};
 use crate::form_key::key_fault;
 use crate::kind_faults::other_kind;
 use crate::simple_keys::Version;
-use cbor_view::{Glance, View};
+use cbor_view::{PartialView, View};
 use mdoc_outside::{KeyName, Memory};
 use std::alloc::Global;
 
 /// What is wrong with the map of a file.
 #[tactic(auto, using(crate::proofs::FirstFaults::first_joined, crate::proofs::FirstFaults::sooner_none))]
-fn form_fault(alloc: Global, file: &Glance<'_>) -> Result<Option<Fault>, Memory>
-    ensures { Finds result (form_faults (glanced file.now)) }
+fn form_fault(alloc: Global, file: &PartialView<'_>) -> Result<Option<Fault>, Memory>
+    ensures { Finds result (form_faults (partial_item file.now)) }
 {
     let Some(entries) = file.pairs() else {
         return Ok(other_kind(StoreCheck::Field(KeyName::Version), file));
@@ -48,6 +48,6 @@ fn cbor_fault(file: &[u8]) -> Option<Fault>
 pub(crate) fn first_fault_of(alloc: Global, file: &[u8]) -> Result<Option<Fault>, Memory>
     ensures { Finds result (faults file.now) }
 {
-    let of_form = form_fault(alloc, &Glance::read(file))?;
+    let of_form = form_fault(alloc, &PartialView::read(file))?;
     Ok(sooner(cbor_fault(file), of_form))
 }

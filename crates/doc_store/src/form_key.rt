@@ -1,17 +1,17 @@
 //! The keys of the maps of a store file.
 
 ghost use Rattle.std.specs.Prelude.{◌≡◌, flat_map};
-ghost use Rattle.cbor_view.specs.Glance.{Glance};
-ghost use Rattle.cbor_view.specs.Glanced.{glanced};
-ghost use Rattle.cbor_view.specs.GlancePairs.{pair_glances_left};
+ghost use Rattle.cbor_view.specs.PartialItem.{PartialItem};
+ghost use Rattle.cbor_view.specs.PartialView.{partial_item};
+ghost use Rattle.cbor_view.specs.PartialPairs.{partial_pairs_left};
 ghost use Rattle.mdoc_outside.specs.KeyName.{key_text};
 ghost use Rattle.doc_store.specs.Found.{Finds};
-ghost use Rattle.doc_store.specs.Faults.{Key, entries_of, first_fault, has_key, is_text, key_again, key_faults, key_missing, text_glanced, values_of};
+ghost use Rattle.doc_store.specs.Faults.{Key, entries_of, first_fault, has_key, is_text, key_again, key_faults, key_missing, text_if_whole, values_of};
 
 use crate::StoreCheck;
 use crate::first_fault::{Fault, sooner};
 use crate::kind_faults::{fault, text};
-use cbor_view::{Glance, GlancePairs};
+use cbor_view::{PartialPairs, PartialView};
 use mdoc_outside::{KeyName, Memory};
 use std::alloc::Global;
 
@@ -25,13 +25,13 @@ pub(crate) trait FormKey {
         ensures { result ≡ (key self.now).name };
 
     /// The first fault of its value.
-    fn fault_of(&self, alloc: Global, value: &Glance<'_>) -> Result<Option<Fault>, Memory>
-        ensures { Finds result ((key self.now).value (glanced value.now)) };
+    fn fault_of(&self, alloc: Global, value: &PartialView<'_>) -> Result<Option<Fault>, Memory>
+        ensures { Finds result ((key self.now).value (partial_item value.now)) };
 }
 
 /// Whether a key of a map has that name.
-pub(crate) fn is_key(item: &Glance<'_>, name: KeyName) -> bool
-    ensures { result ≡ is_text (key_text name) (text_glanced (glanced item.now)) }
+pub(crate) fn is_key(item: &PartialView<'_>, name: KeyName) -> bool
+    ensures { result ≡ is_text (key_text name) (text_if_whole (partial_item item.now)) }
 {
     match text(item) {
         Some(words) => words == name.text(),
@@ -40,8 +40,8 @@ pub(crate) fn is_key(item: &Glance<'_>, name: KeyName) -> bool
 }
 
 /// Whether a key has that name.
-fn has_key(entries: GlancePairs<'_>, name: KeyName) -> bool
-    ensures { result ≡ has_key name (pair_glances_left entries.entry) }
+fn has_key(entries: PartialPairs<'_>, name: KeyName) -> bool
+    ensures { result ≡ has_key name (partial_pairs_left entries.entry) }
 {
     for (item, _) in entries {
         if is_key(&item, name) {
@@ -52,8 +52,8 @@ fn has_key(entries: GlancePairs<'_>, name: KeyName) -> bool
 }
 
 /// A key that is missing, in a map that is whole.
-fn missing(map: &Glance<'_>, entries: GlancePairs<'_>, name: KeyName) -> Option<Fault>
-    ensures { result ≡ first_fault (key_missing (glanced map.now) name (pair_glances_left entries.entry)) }
+fn missing(map: &PartialView<'_>, entries: PartialPairs<'_>, name: KeyName) -> Option<Fault>
+    ensures { result ≡ first_fault (key_missing (partial_item map.now) name (partial_pairs_left entries.entry)) }
 {
     if map.view().is_none() || has_key(entries, name) {
         None
@@ -63,8 +63,8 @@ fn missing(map: &Glance<'_>, entries: GlancePairs<'_>, name: KeyName) -> Option<
 }
 
 /// A key that stands a second time.
-fn again(entries: GlancePairs<'_>, name: KeyName) -> Option<Fault>
-    ensures { result ≡ first_fault (key_again name (pair_glances_left entries.entry)) }
+fn again(entries: PartialPairs<'_>, name: KeyName) -> Option<Fault>
+    ensures { result ≡ first_fault (key_again name (partial_pairs_left entries.entry)) }
 {
     let mut seen = false;
     for (item, _) in entries {
@@ -83,9 +83,9 @@ fn again(entries: GlancePairs<'_>, name: KeyName) -> Option<Fault>
 fn of_values<K: FormKey>(
     key: &K,
     alloc: Global,
-    entries: GlancePairs<'_>,
+    entries: PartialPairs<'_>,
 ) -> Result<Option<Fault>, Memory>
-    ensures { Finds result (flat_map (K.key key.now).value (values_of (K.key key.now).name (pair_glances_left entries.entry))) }
+    ensures { Finds result (flat_map (K.key key.now).value (values_of (K.key key.now).name (partial_pairs_left entries.entry))) }
 {
     let mut found = None;
     for (item, value) in entries {
@@ -103,11 +103,11 @@ fn of_values<K: FormKey>(
 pub(crate) fn key_fault<K: FormKey>(
     key: &K,
     alloc: Global,
-    map: &Glance<'_>,
-    entries: GlancePairs<'_>,
+    map: &PartialView<'_>,
+    entries: PartialPairs<'_>,
 ) -> Result<Option<Fault>, Memory>
     ensures { Finds result
-        (key_faults (glanced map.now) (pair_glances_left entries.entry) (K.key key.now)) }
+        (key_faults (partial_item map.now) (partial_pairs_left entries.entry) (K.key key.now)) }
 {
     let name = key.name();
     let of_values = of_values(key, alloc, entries)?;

@@ -3,7 +3,7 @@
 ghost use Rattle.std.specs.Prelude.{◌≡◌, length};
 ghost use Rattle.cbor_view.specs.Parts.{bytes_in, text_in, uint_in};
 ghost use Rattle.cbor_view.specs.View.{part};
-ghost use Rattle.cbor_view.specs.Glanced.{glanced};
+ghost use Rattle.cbor_view.specs.PartialView.{partial_item};
 ghost use Rattle.doc_store.specs.Faults.{any_item, cut_item, doubled_key, fields_fault, first_fault, item_fault, item_faults, item_limits, value_limit, whole_item, wrong_field};
 ghost use Rattle.doc_store.specs.Item.{item};
 
@@ -12,7 +12,7 @@ use crate::first_fault::{Fault, sooner};
 use crate::item::Item;
 use crate::kind_faults::{fault, is_broken, name_limit, other_kind};
 use crate::{ItemFault, StoreCheck};
-use cbor_view::{Glance, Key, View};
+use cbor_view::{Key, PartialView, View};
 use mdoc_outside::{KeyName, LimitName};
 
 /// The tag of bytes that hold CBOR (RFC 8949, section 3.4.5.1).
@@ -99,8 +99,8 @@ fn item_fault(raw: &View<'_>) -> Option<ItemFault>
 }
 
 /// A value of more than 262,144 bytes.
-fn value_limit(at: &Glance<'_>, value: &View<'_>) -> Option<Fault>
-    ensures { result ≡ first_fault (value_limit (glanced at.now) (length (part value.now).bytes)) }
+fn value_limit(at: &PartialView<'_>, value: &View<'_>) -> Option<Fault>
+    ensures { result ≡ first_fault (value_limit (partial_item at.now) (length (part value.now).bytes)) }
 {
     let length = value.raw().len();
     if length <= 262_144 {
@@ -112,8 +112,8 @@ fn value_limit(at: &Glance<'_>, value: &View<'_>) -> Option<Fault>
 
 /// A limit that the name or the value of an item passes.
 #[tactic(auto, using(crate::proofs::FirstFaults::first_joined))]
-fn item_limits(at: &Glance<'_>, raw: &View<'_>) -> Option<Fault>
-    ensures { result ≡ first_fault (item_limits (glanced at.now) (item (part raw.now).bytes)) }
+fn item_limits(at: &PartialView<'_>, raw: &View<'_>) -> Option<Fault>
+    ensures { result ≡ first_fault (item_limits (partial_item at.now) (item (part raw.now).bytes)) }
 {
     match Item::read(raw.raw()) {
         Some(item) => sooner(name_limit(at, item.name), value_limit(at, &item.value)),
@@ -122,8 +122,8 @@ fn item_limits(at: &Glance<'_>, raw: &View<'_>) -> Option<Fault>
 }
 
 /// What is wrong with a stored item that is whole.
-fn whole_item(at: &Glance<'_>, raw: &View<'_>) -> Option<Fault>
-    ensures { result ≡ first_fault (whole_item (glanced at.now) (part raw.now) (item_fault (part raw.now))) }
+fn whole_item(at: &PartialView<'_>, raw: &View<'_>) -> Option<Fault>
+    ensures { result ≡ first_fault (whole_item (partial_item at.now) (part raw.now) (item_fault (part raw.now))) }
 {
     match item_fault(raw) {
         Some(found) => Some(fault(StoreCheck::Item(found), at)),
@@ -132,8 +132,8 @@ fn whole_item(at: &Glance<'_>, raw: &View<'_>) -> Option<Fault>
 }
 
 /// What is wrong with one that isn't, beside its CBOR.
-fn cut_item(at: &Glance<'_>) -> Option<Fault>
-    ensures { result ≡ first_fault (cut_item (glanced at.now)) }
+fn cut_item(at: &PartialView<'_>) -> Option<Fault>
+    ensures { result ≡ first_fault (cut_item (partial_item at.now)) }
 {
     let check = StoreCheck::Item(ItemFault::NotTagged);
     match at.tag() {
@@ -144,8 +144,8 @@ fn cut_item(at: &Glance<'_>) -> Option<Fault>
 }
 
 /// What is wrong with a stored item.
-pub(crate) fn stored_item_fault(item: &Glance<'_>) -> Option<Fault>
-    ensures { result ≡ first_fault (item_faults (glanced item.now)) }
+pub(crate) fn stored_item_fault(item: &PartialView<'_>) -> Option<Fault>
+    ensures { result ≡ first_fault (item_faults (partial_item item.now)) }
 {
     match item.view() {
         Some(raw) => whole_item(item, &raw),

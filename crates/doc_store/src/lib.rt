@@ -46,7 +46,7 @@ pub use document::Document;
 pub use first_fault::Fault;
 pub use item_fault::ItemFault;
 pub use laws::{EMPTY_STORE, empty_store, first_of_all, one_verdict, same_places, same_presence};
-pub use sharing::crosses;
+pub use sharing::types_are_send_and_sync;
 pub use store::Store;
 pub use store_check::StoreCheck;
 pub use store_fault::StoreFault;

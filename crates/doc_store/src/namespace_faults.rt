@@ -1,10 +1,10 @@
 //! What is wrong with the namespaces of a copy.
 
 ghost use Rattle.std.specs.Prelude.{◌≡◌, flat_map, option_and_then, option_map, slice_get};
-ghost use Rattle.cbor_view.specs.Glance.{items_glanced};
-ghost use Rattle.cbor_view.specs.Glanced.{glanced};
-ghost use Rattle.cbor_view.specs.GlanceItems.{glances_left};
-ghost use Rattle.cbor_view.specs.GlancePairs.{pair_glances_left};
+ghost use Rattle.cbor_view.specs.PartialItem.{partial_items};
+ghost use Rattle.cbor_view.specs.PartialView.{partial_item};
+ghost use Rattle.cbor_view.specs.PartialItems.{partial_items_left};
+ghost use Rattle.cbor_view.specs.PartialPairs.{partial_pairs_left};
 ghost use Rattle.mdoc_outside.specs.declared.key_name.KeyName.TheVariants as keys;
 ghost use Rattle.doc_store.specs.Faults.{entries_faults, first_fault, item_faults, items_faults, listed, name_faults, space_faults, space_items, space_value, spaces_faults};
 ghost use Rattle.doc_store.specs.Found.{Finds};
@@ -19,7 +19,7 @@ use crate::kind_faults::{name_limit, other_kind, text};
 use crate::limits::{MOST_ITEMS, MOST_NAMESPACES};
 use crate::passed::{keys_passed, passed_at};
 use crate::repeated::{items_again, keys_again};
-use cbor_view::{Glance, GlanceItems, GlancePairs};
+use cbor_view::{PartialItems, PartialPairs, PartialView};
 use mdoc_outside::{KeyName, LimitName, Memory};
 use std::alloc::Global;
 
@@ -36,7 +36,7 @@ impl FormKey for NameSpaces {
         KeyName::NameSpaces
     }
 
-    fn fault_of(&self, alloc: Global, value: &Glance<'_>) -> Result<Option<Fault>, Memory> {
+    fn fault_of(&self, alloc: Global, value: &PartialView<'_>) -> Result<Option<Fault>, Memory> {
         match value.pairs() {
             Some(entries) => entries_fault(alloc, entries),
             None => Ok(other_kind(KIND, value)),
@@ -50,15 +50,15 @@ struct StoredItem;
 impl Judge for StoredItem {
     ghost faults = { λ _. item_faults };
 
-    fn fault_of(&self, _alloc: Global, item: &Glance<'_>) -> Result<Option<Fault>, Memory> {
+    fn fault_of(&self, _alloc: Global, item: &PartialView<'_>) -> Result<Option<Fault>, Memory> {
         Ok(stored_item_fault(item))
     }
 }
 
 /// What is wrong with the items of a namespace.
 #[tactic(auto, using(crate::proofs::FirstFaults::first_joined))]
-fn items_fault(alloc: Global, items: GlanceItems<'_>) -> Result<Option<Fault>, Memory>
-    ensures { Finds result (items_faults (glances_left items.entry)) }
+fn items_fault(alloc: Global, items: PartialItems<'_>) -> Result<Option<Fault>, Memory>
+    ensures { Finds result (items_faults (partial_items_left items.entry)) }
 {
     let of_each = of_items(&StoredItem, alloc, items)?;
     let again = items_again(alloc, items)?;
@@ -66,8 +66,8 @@ fn items_fault(alloc: Global, items: GlanceItems<'_>) -> Result<Option<Fault>, M
 }
 
 /// The same, of the value that should be their array.
-fn value_fault(alloc: Global, value: Option<Glance<'_>>) -> Result<Option<Fault>, Memory>
-    ensures { Finds result (space_value (option_map glanced value.entry)) }
+fn value_fault(alloc: Global, value: Option<PartialView<'_>>) -> Result<Option<Fault>, Memory>
+    ensures { Finds result (space_value (option_map partial_item value.entry)) }
 {
     let Some(value) = value else {
         return Ok(None);
@@ -79,8 +79,8 @@ fn value_fault(alloc: Global, value: Option<Glance<'_>>) -> Result<Option<Fault>
 }
 
 /// What is wrong with the name of a namespace.
-fn name_fault(name: &Glance<'_>) -> Option<Fault>
-    ensures { result ≡ first_fault (name_faults (glanced name.now)) }
+fn name_fault(name: &PartialView<'_>) -> Option<Fault>
+    ensures { result ≡ first_fault (name_faults (partial_item name.now)) }
 {
     match text(name) {
         Some(words) => name_limit(name, words),
@@ -92,10 +92,10 @@ fn name_fault(name: &Glance<'_>) -> Option<Fault>
 #[tactic(auto, using(crate::proofs::FirstFaults::first_joined))]
 fn space_fault(
     alloc: Global,
-    name: &Glance<'_>,
-    value: Option<Glance<'_>>,
+    name: &PartialView<'_>,
+    value: Option<PartialView<'_>>,
 ) -> Result<Option<Fault>, Memory>
-    ensures { Finds result (space_faults (glanced name.now, option_map glanced value.entry)) }
+    ensures { Finds result (space_faults (partial_item name.now, option_map partial_item value.entry)) }
 {
     let of_value = value_fault(alloc, value)?;
     Ok(sooner(name_fault(name), of_value))
@@ -103,8 +103,8 @@ fn space_fault(
 
 /// What is wrong with each namespace.
 #[tactic(auto, using(crate::proofs::FirstFaults::one_more, crate::proofs::FirstFaults::sooner_none))]
-fn of_spaces(alloc: Global, entries: GlancePairs<'_>) -> Result<Option<Fault>, Memory>
-    ensures { Finds result (flat_map space_faults (pair_glances_left entries.entry)) }
+fn of_spaces(alloc: Global, entries: PartialPairs<'_>) -> Result<Option<Fault>, Memory>
+    ensures { Finds result (flat_map space_faults (partial_pairs_left entries.entry)) }
 {
     let mut found = None;
     for (name, value) in entries {
@@ -114,8 +114,8 @@ fn of_spaces(alloc: Global, entries: GlancePairs<'_>) -> Result<Option<Fault>, M
 }
 
 /// The item at a place of an array, or how many places lie beyond it.
-fn item_or_beyond<'a>(items: GlanceItems<'a>, place: usize) -> Result<Glance<'a>, usize>
-    ensures { ok_map glanced result ≡ placed (glances_left items.entry) place }
+fn item_or_beyond<'a>(items: PartialItems<'a>, place: usize) -> Result<PartialView<'a>, usize>
+    ensures { ok_map partial_item result ≡ placed (partial_items_left items.entry) place }
 {
     let mut before = place;
     for item in items {
@@ -128,9 +128,12 @@ fn item_or_beyond<'a>(items: GlanceItems<'a>, place: usize) -> Result<Glance<'a>
 }
 
 /// The same of the value of a namespace.
-fn in_value_or_beyond<'a>(value: Option<Glance<'a>>, place: usize) -> Result<Glance<'a>, usize>
-    ensures { ok_map glanced result
-        ≡ placed (listed (option_and_then items_glanced (option_map glanced value.entry))) place }
+fn in_value_or_beyond<'a>(
+    value: Option<PartialView<'a>>,
+    place: usize,
+) -> Result<PartialView<'a>, usize>
+    ensures { ok_map partial_item result
+        ≡ placed (listed (option_and_then partial_items (option_map partial_item value.entry))) place }
 {
     let Some(value) = value else {
         return Err(place);
@@ -143,9 +146,9 @@ fn in_value_or_beyond<'a>(value: Option<Glance<'a>>, place: usize) -> Result<Gla
 
 /// The item at a place among those of all namespaces, if there is one.
 #[tactic(auto, using(crate::proofs::Placing::get_placed))]
-fn item_of_all<'a>(entries: GlancePairs<'a>, place: usize) -> Option<Glance<'a>>
-    ensures { option_map glanced result
-        ≡ slice_get (flat_map space_items (pair_glances_left entries.entry)) place }
+fn item_of_all<'a>(entries: PartialPairs<'a>, place: usize) -> Option<PartialView<'a>>
+    ensures { option_map partial_item result
+        ≡ slice_get (flat_map space_items (partial_pairs_left entries.entry)) place }
 {
     let mut before = place;
     for (_, value) in entries {
@@ -159,8 +162,8 @@ fn item_of_all<'a>(entries: GlancePairs<'a>, place: usize) -> Option<Glance<'a>>
 
 /// What is wrong with all namespaces.
 #[tactic(auto, using(crate::proofs::FirstFaults::first_joined, crate::proofs::FirstFaults::sooner_none))]
-fn entries_fault(alloc: Global, entries: GlancePairs<'_>) -> Result<Option<Fault>, Memory>
-    ensures { Finds result (entries_faults (pair_glances_left entries.entry)) }
+fn entries_fault(alloc: Global, entries: PartialPairs<'_>) -> Result<Option<Fault>, Memory>
+    ensures { Finds result (entries_faults (partial_pairs_left entries.entry)) }
 {
     let of_each = of_spaces(alloc, entries)?;
     let again = keys_again(alloc, entries)?;

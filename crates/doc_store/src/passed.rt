@@ -1,20 +1,20 @@
 //! Limits on the lists of a store file.
 
 ghost use Rattle.std.specs.Prelude.{◌≡◌, ◌<◌, ◌^◌, option_map, slice_get};
-ghost use Rattle.cbor_view.specs.Glanced.{glanced};
-ghost use Rattle.cbor_view.specs.GlanceItems.{glances_left};
-ghost use Rattle.cbor_view.specs.GlancePairs.{pair_glances_left};
+ghost use Rattle.cbor_view.specs.PartialView.{partial_item};
+ghost use Rattle.cbor_view.specs.PartialItems.{partial_items_left};
+ghost use Rattle.cbor_view.specs.PartialPairs.{partial_pairs_left};
 ghost use Rattle.doc_store.specs.Faults.{first_fault, keys_in, passed, passed_at};
 
 use crate::StoreCheck;
 use crate::first_fault::Fault;
 use crate::kind_faults::fault;
-use cbor_view::{Glance, GlanceItems, GlancePairs};
+use cbor_view::{PartialItems, PartialPairs, PartialView};
 use mdoc_outside::LimitName;
 
 /// The item of an array at a place, if there is one.
-fn item_at<'a>(items: GlanceItems<'a>, place: usize) -> Option<Glance<'a>>
-    ensures { option_map glanced result ≡ slice_get (glances_left items.entry) place }
+fn item_at<'a>(items: PartialItems<'a>, place: usize) -> Option<PartialView<'a>>
+    ensures { option_map partial_item result ≡ slice_get (partial_items_left items.entry) place }
 {
     let mut before = place;
     for item in items {
@@ -27,8 +27,8 @@ fn item_at<'a>(items: GlanceItems<'a>, place: usize) -> Option<Glance<'a>>
 }
 
 /// The key of a map at a place, if there is one.
-fn key_at<'a>(entries: GlancePairs<'a>, place: usize) -> Option<Glance<'a>>
-    ensures { option_map glanced result ≡ slice_get (keys_in (pair_glances_left entries.entry)) place }
+fn key_at<'a>(entries: PartialPairs<'a>, place: usize) -> Option<PartialView<'a>>
+    ensures { option_map partial_item result ≡ slice_get (keys_in (partial_pairs_left entries.entry)) place }
 {
     let mut before = place;
     for (key, _) in entries {
@@ -41,9 +41,13 @@ fn key_at<'a>(entries: GlancePairs<'a>, place: usize) -> Option<Glance<'a>>
 }
 
 /// The fault of the item that passes a limit, if there is one.
-pub(crate) fn passed_at(limit: LimitName, most: usize, item: Option<Glance<'_>>) -> Option<Fault>
+pub(crate) fn passed_at(
+    limit: LimitName,
+    most: usize,
+    item: Option<PartialView<'_>>,
+) -> Option<Fault>
     requires { most < 2 ^ 32 }
-    ensures { result ≡ first_fault (passed_at limit most (option_map glanced item.entry)) }
+    ensures { result ≡ first_fault (passed_at limit most (option_map partial_item item.entry)) }
 {
     match item {
         Some(item) => Some(fault(StoreCheck::Limit(limit, most as u64 + 1), &item)),
@@ -52,17 +56,17 @@ pub(crate) fn passed_at(limit: LimitName, most: usize, item: Option<Glance<'_>>)
 }
 
 /// The item of an array that passes a limit.
-pub(crate) fn items_passed(items: GlanceItems<'_>, limit: LimitName, most: usize) -> Option<Fault>
+pub(crate) fn items_passed(items: PartialItems<'_>, limit: LimitName, most: usize) -> Option<Fault>
     requires { most < 2 ^ 32 }
-    ensures { result ≡ first_fault (passed limit most (glances_left items.entry)) }
+    ensures { result ≡ first_fault (passed limit most (partial_items_left items.entry)) }
 {
     passed_at(limit, most, item_at(items, most))
 }
 
 /// The key of a map that passes a limit.
-pub(crate) fn keys_passed(entries: GlancePairs<'_>, limit: LimitName, most: usize) -> Option<Fault>
+pub(crate) fn keys_passed(entries: PartialPairs<'_>, limit: LimitName, most: usize) -> Option<Fault>
     requires { most < 2 ^ 32 }
-    ensures { result ≡ first_fault (passed limit most (keys_in (pair_glances_left entries.entry))) }
+    ensures { result ≡ first_fault (passed limit most (keys_in (partial_pairs_left entries.entry))) }
 {
     passed_at(limit, most, key_at(entries, most))
 }

@@ -1,10 +1,10 @@
 //! Names that stand twice in a list of a store file.
 
 ghost use Rattle.std.specs.Prelude.{◌≡◌, ◌++◌, IfOk, List, filter_map, flat_map, option_map, ℕ};
-ghost use Rattle.cbor_view.specs.Glance.{Glance as Sight};
-ghost use Rattle.cbor_view.specs.Glanced.{glanced};
-ghost use Rattle.cbor_view.specs.GlanceItems.{glances_left};
-ghost use Rattle.cbor_view.specs.GlancePairs.{pair_glances_left};
+ghost use Rattle.cbor_view.specs.PartialItem.{PartialItem};
+ghost use Rattle.cbor_view.specs.PartialView.{partial_item};
+ghost use Rattle.cbor_view.specs.PartialItems.{partial_items_left};
+ghost use Rattle.cbor_view.specs.PartialPairs.{partial_pairs_left};
 ghost use Rattle.doc_store.specs.Faults.{again, doc_types, item_name, keys_in, repeated, values_of, with_text};
 ghost use Rattle.doc_store.specs.Found.{Finds};
 ghost use Rattle.doc_store.specs.Names.{again_behind, names_seen};
@@ -16,13 +16,13 @@ use crate::form_key::is_key;
 use crate::item::Item;
 use crate::kind_faults::{fault, text};
 use crate::names::Names;
-use cbor_view::{Glance, GlanceItems, GlancePairs};
+use cbor_view::{PartialItems, PartialPairs, PartialView};
 use mdoc_outside::{KeyName, Memory};
 use std::alloc::Global;
 
 /// The name of a stored item.
-fn item_name<'a>(item: &Glance<'a>) -> Option<&'a str>
-    ensures { option_map (λ name. (name.now, glanced item.now)) result ≡ item_name (glanced item.now) }
+fn item_name<'a>(item: &PartialView<'a>) -> Option<&'a str>
+    ensures { option_map (λ name. (name.now, partial_item item.now)) result ≡ item_name (partial_item item.now) }
 {
     let raw = item.view()?;
     let read = Item::read(raw.raw())?;
@@ -30,8 +30,8 @@ fn item_name<'a>(item: &Glance<'a>) -> Option<&'a str>
 }
 
 /// The first item of a namespace whose name is that of one in front of it.
-pub(crate) fn items_again(alloc: Global, items: GlanceItems<'_>) -> Result<Option<Fault>, Memory>
-    ensures { Finds result (repeated (filter_map item_name (glances_left items.entry))) }
+pub(crate) fn items_again(alloc: Global, items: PartialItems<'_>) -> Result<Option<Fault>, Memory>
+    ensures { Finds result (repeated (filter_map item_name (partial_items_left items.entry))) }
 {
     let mut names = Names::new(alloc);
     for item in items {
@@ -45,9 +45,9 @@ pub(crate) fn items_again(alloc: Global, items: GlanceItems<'_>) -> Result<Optio
 }
 
 /// The first key of a map that is a text equal to one in front of it.
-pub(crate) fn keys_again(alloc: Global, entries: GlancePairs<'_>) -> Result<Option<Fault>, Memory>
+pub(crate) fn keys_again(alloc: Global, entries: PartialPairs<'_>) -> Result<Option<Fault>, Memory>
     ensures { Finds result
-        (repeated (filter_map with_text (keys_in (pair_glances_left entries.entry)))) }
+        (repeated (filter_map with_text (keys_in (partial_pairs_left entries.entry)))) }
 {
     let mut names = Names::new(alloc);
     for (key, _) in entries {
@@ -61,9 +61,12 @@ pub(crate) fn keys_again(alloc: Global, entries: GlancePairs<'_>) -> Result<Opti
 }
 
 /// The first type of a document that is that of one in front of it.
-fn types_again<'a>(types: &mut Names<'a>, entries: GlancePairs<'a>) -> Result<Option<Fault>, Memory>
-    ensures { IfOk result (λ found. (others : List (List ℕ × Sight)) →
-        again (names_seen types.old) (filter_map with_text (values_of keys.DocType (pair_glances_left entries.entry)) ++ others)
+fn types_again<'a>(
+    types: &mut Names<'a>,
+    entries: PartialPairs<'a>,
+) -> Result<Option<Fault>, Memory>
+    ensures { IfOk result (λ found. (others : List (List ℕ × PartialItem)) →
+        again (names_seen types.old) (filter_map with_text (values_of keys.DocType (partial_pairs_left entries.entry)) ++ others)
         ≡ again_behind found types.new others) }
 {
     for (key, value) in entries {
@@ -83,9 +86,9 @@ fn types_again<'a>(types: &mut Names<'a>, entries: GlancePairs<'a>) -> Result<Op
 /// The first type of the documents that is equal to one in front of it.
 pub(crate) fn doc_types_again(
     alloc: Global,
-    documents: GlanceItems<'_>,
+    documents: PartialItems<'_>,
 ) -> Result<Option<Fault>, Memory>
-    ensures { Finds result (repeated (flat_map doc_types (glances_left documents.entry))) }
+    ensures { Finds result (repeated (flat_map doc_types (partial_items_left documents.entry))) }
 {
     let mut types = Names::new(alloc);
     for document in documents {

@@ -9,9 +9,8 @@ fn is_send<T: Send>() {}
 
 fn is_sync<T: Sync>() {}
 
-/// A store, its documents, their copies and the items of these may be handed to another thread,
-/// and shared with it.
-pub fn crosses() {
+/// A store, its documents, their copies and the iterator over the items of a copy are Send and Sync.
+pub fn types_are_send_and_sync() {
     is_send::<Store<'static>>();
     is_sync::<Store<'static>>();
     is_send::<Document<'static>>();

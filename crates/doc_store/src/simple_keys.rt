@@ -1,7 +1,7 @@
 //! The keys of a store file whose values are numbers, texts and truth values, and the one of an array of four.
 
 ghost use Rattle.std.specs.Prelude.{◌≡◌};
-ghost use Rattle.cbor_view.specs.Glanced.{glanced};
+ghost use Rattle.cbor_view.specs.PartialView.{partial_item};
 ghost use Rattle.doc_store.specs.Faults.{auth_faults, auth_of_issuer, doc_type_faults, first_fault, key_number, used_faults, version_faults};
 ghost use Rattle.mdoc_outside.specs.declared.key_name.KeyName.TheVariants as keys;
 
@@ -9,7 +9,7 @@ use crate::StoreCheck;
 use crate::first_fault::Fault;
 use crate::form_key::FormKey;
 use crate::kind_faults::{boolean, fault, name_limit, other_kind, text, uint};
-use cbor_view::Glance;
+use cbor_view::PartialView;
 use mdoc_outside::{KeyName, Memory};
 use std::alloc::Global;
 
@@ -23,13 +23,13 @@ impl FormKey for Version {
         KeyName::Version
     }
 
-    fn fault_of(&self, _alloc: Global, value: &Glance<'_>) -> Result<Option<Fault>, Memory> {
+    fn fault_of(&self, _alloc: Global, value: &PartialView<'_>) -> Result<Option<Fault>, Memory> {
         Ok(version_fault(value))
     }
 }
 
-fn version_fault(value: &Glance<'_>) -> Option<Fault>
-    ensures { result ≡ first_fault (version_faults (glanced value.now)) }
+fn version_fault(value: &PartialView<'_>) -> Option<Fault>
+    ensures { result ≡ first_fault (version_faults (partial_item value.now)) }
 {
     match uint(value) {
         Some(1) => None,
@@ -48,13 +48,13 @@ impl FormKey for DocType {
         KeyName::DocType
     }
 
-    fn fault_of(&self, _alloc: Global, value: &Glance<'_>) -> Result<Option<Fault>, Memory> {
+    fn fault_of(&self, _alloc: Global, value: &PartialView<'_>) -> Result<Option<Fault>, Memory> {
         Ok(doc_type_fault(value))
     }
 }
 
-fn doc_type_fault(value: &Glance<'_>) -> Option<Fault>
-    ensures { result ≡ first_fault (doc_type_faults (glanced value.now)) }
+fn doc_type_fault(value: &PartialView<'_>) -> Option<Fault>
+    ensures { result ≡ first_fault (doc_type_faults (partial_item value.now)) }
 {
     match text(value) {
         Some(name) => name_limit(value, name),
@@ -72,13 +72,13 @@ impl FormKey for Auth {
         KeyName::Auth
     }
 
-    fn fault_of(&self, _alloc: Global, value: &Glance<'_>) -> Result<Option<Fault>, Memory> {
+    fn fault_of(&self, _alloc: Global, value: &PartialView<'_>) -> Result<Option<Fault>, Memory> {
         Ok(auth_fault(value))
     }
 }
 
-fn auth_fault(value: &Glance<'_>) -> Option<Fault>
-    ensures { result ≡ first_fault (auth_faults (glanced value.now)) }
+fn auth_fault(value: &PartialView<'_>) -> Option<Fault>
+    ensures { result ≡ first_fault (auth_faults (partial_item value.now)) }
 {
     let check = StoreCheck::Field(KeyName::Auth);
     match uint(value) {
@@ -98,13 +98,13 @@ impl FormKey for DeviceKeyNumber {
         KeyName::Key
     }
 
-    fn fault_of(&self, _alloc: Global, value: &Glance<'_>) -> Result<Option<Fault>, Memory> {
+    fn fault_of(&self, _alloc: Global, value: &PartialView<'_>) -> Result<Option<Fault>, Memory> {
         Ok(device_key_fault(value))
     }
 }
 
-fn device_key_fault(value: &Glance<'_>) -> Option<Fault>
-    ensures { result ≡ first_fault (key_number (glanced value.now)) }
+fn device_key_fault(value: &PartialView<'_>) -> Option<Fault>
+    ensures { result ≡ first_fault (key_number (partial_item value.now)) }
 {
     let check = StoreCheck::Field(KeyName::Key);
     match uint(value) {
@@ -124,13 +124,13 @@ impl FormKey for Used {
         KeyName::Used
     }
 
-    fn fault_of(&self, _alloc: Global, value: &Glance<'_>) -> Result<Option<Fault>, Memory> {
+    fn fault_of(&self, _alloc: Global, value: &PartialView<'_>) -> Result<Option<Fault>, Memory> {
         Ok(used_fault(value))
     }
 }
 
-fn used_fault(value: &Glance<'_>) -> Option<Fault>
-    ensures { result ≡ first_fault (used_faults (glanced value.now)) }
+fn used_fault(value: &PartialView<'_>) -> Option<Fault>
+    ensures { result ≡ first_fault (used_faults (partial_item value.now)) }
 {
     match boolean(value) {
         Some(_) => None,
@@ -148,13 +148,13 @@ impl FormKey for IssuerAuth {
         KeyName::IssuerAuth
     }
 
-    fn fault_of(&self, _alloc: Global, value: &Glance<'_>) -> Result<Option<Fault>, Memory> {
+    fn fault_of(&self, _alloc: Global, value: &PartialView<'_>) -> Result<Option<Fault>, Memory> {
         Ok(issuer_auth_fault(value))
     }
 }
 
-fn issuer_auth_fault(value: &Glance<'_>) -> Option<Fault>
-    ensures { result ≡ first_fault (auth_of_issuer (glanced value.now)) }
+fn issuer_auth_fault(value: &PartialView<'_>) -> Option<Fault>
+    ensures { result ≡ first_fault (auth_of_issuer (partial_item value.now)) }
 {
     let check = StoreCheck::Field(KeyName::IssuerAuth);
     match value.count() {

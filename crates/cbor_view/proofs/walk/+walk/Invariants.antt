@@ -1,28 +1,36 @@
-use Rattle.std.proofs.Common.{◌≡◌, ◌+◌, ◌*◌}
-use Rattle.cbor_view.specs.Reading.{items_at, pairs_at, item_at, past}
+use Rattle.std.proofs.Common.{◌≡◌, ◌≤◌, ◌+◌, ◌*◌}
+use Rattle.cbor_view.specs.Tree.{levels_of_all, levels_of_pairs}
+use Rattle.cbor_view.specs.Reading.{items_at, pairs_at, item_at, measured}
+use Rattle.cbor_view.proofs.Steps.{deepened}
 use Rattle.cbor_view.proofs.walk.+walk.Given as goal
 
-abbrev pub decreases-skip : goal.decreases-skip
-decreases-skip l = 3 * l.levels + 1
+abbrev pub decreases-walk : goal.decreases-walk
+decreases-walk l = 3 * l.most + 1
 
-abbrev pub decreases-skip_behind : goal.decreases-skip_behind
-decreases-skip_behind l = 3 * l.levels
+abbrev pub decreases-walk_after : goal.decreases-walk_after
+decreases-walk_after l = 3 * l.most
 
-abbrev pub decreases-skip_items : goal.decreases-skip_items
-decreases-skip_items l = 3 * l.levels + 2
+abbrev pub decreases-walk_items : goal.decreases-walk_items
+decreases-walk_items l = 3 * l.most + 2
 
-abbrev pub decreases-skip_pairs : goal.decreases-skip_pairs
-decreases-skip_pairs l = 3 * l.levels + 2
+abbrev pub decreases-walk_pairs : goal.decreases-walk_pairs
+decreases-walk_pairs l = 3 * l.most + 2
 
--- what is left to skip gives what the whole gives
-abbrev pub invariant-skip_items-loop-left : goal.invariant-skip_items-loop-left
-invariant-skip_items-loop-left l = past (items_at (item_at l.levels) l.left l.rest) ≡ past (items_at (item_at l.levels) l.count l.bytes)
+-- what is left to walk over, with the deepest so far, gives what the whole gives
+abbrev pub invariant-walk_items-loop-left : goal.invariant-walk_items-loop-left
+invariant-walk_items-loop-left l = record {
+  gives : deepened l.deepest (measured levels_of_all (items_at (item_at l.most) l.left l.rest)) ≡ measured levels_of_all (items_at (item_at l.most) l.count l.bytes);
+  within : l.deepest ≤ l.most;
+}
 
-abbrev pub decreases-skip_items-loop-left : goal.decreases-skip_items-loop-left
-decreases-skip_items-loop-left l = l.left
+abbrev pub decreases-walk_items-loop-left : goal.decreases-walk_items-loop-left
+decreases-walk_items-loop-left l = l.left
 
-abbrev pub invariant-skip_pairs-loop-left : goal.invariant-skip_pairs-loop-left
-invariant-skip_pairs-loop-left l = past (pairs_at (item_at l.levels) l.left l.rest) ≡ past (pairs_at (item_at l.levels) l.count l.bytes)
+abbrev pub invariant-walk_pairs-loop-left : goal.invariant-walk_pairs-loop-left
+invariant-walk_pairs-loop-left l = record {
+  gives : deepened l.deepest (measured levels_of_pairs (pairs_at (item_at l.most) l.left l.rest)) ≡ measured levels_of_pairs (pairs_at (item_at l.most) l.count l.bytes);
+  within : l.deepest ≤ l.most;
+}
 
-abbrev pub decreases-skip_pairs-loop-left : goal.decreases-skip_pairs-loop-left
-decreases-skip_pairs-loop-left l = l.left
+abbrev pub decreases-walk_pairs-loop-left : goal.decreases-walk_pairs-loop-left
+decreases-walk_pairs-loop-left l = l.left

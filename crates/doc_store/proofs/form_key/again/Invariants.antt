@@ -1,5 +1,5 @@
 use Rattle.std.proofs.Common.{◌≡◌, if◌then◌else◌}
-use Rattle.cbor_view.specs.GlancePairs.{pair_glances_left}
+use Rattle.cbor_view.specs.PartialPairs.{partial_pairs_left}
 use Rattle.doc_store.specs.Faults.{doubled_at, entries_of, key_again}
 use Rattle.doc_store.proofs.form_key.again.Given as goal
 
@@ -8,4 +8,4 @@ abbrev pub invariant-loop-item : goal.invariant-loop-item
 invariant-loop-item l =
     (goal.iterator-loop-item).can_next l.item-iterator ×
     (goal.iterator-loop-item).is_finite l.item-iterator ×
-    ((if l.seen then doubled_at (entries_of l.name (pair_glances_left l.item-iterator)) else key_again l.name (pair_glances_left l.item-iterator)) ≡ key_again l.name (pair_glances_left l.fn.entries))
+    ((if l.seen then doubled_at (entries_of l.name (partial_pairs_left l.item-iterator)) else key_again l.name (partial_pairs_left l.item-iterator)) ≡ key_again l.name (partial_pairs_left l.fn.entries))

@@ -1,6 +1,6 @@
 use Rattle.std.proofs.Common.{◌≡◌}
 use Rattle.std.specs.Prelude.{flat_map, slice_get}
-use Rattle.cbor_view.specs.GlancePairs.{pair_glances_left}
+use Rattle.cbor_view.specs.PartialPairs.{partial_pairs_left}
 use Rattle.doc_store.specs.Faults.{space_items}
 use Rattle.doc_store.proofs.namespace_faults.item_of_all.Given as goal
 
@@ -9,5 +9,5 @@ abbrev pub invariant-loop-value : goal.invariant-loop-value
 invariant-loop-value l =
     (goal.iterator-loop-value).can_next l.value-iterator ×
     (goal.iterator-loop-value).is_finite l.value-iterator ×
-    (slice_get (flat_map space_items (pair_glances_left l.value-iterator)) l.before
-    ≡ slice_get (flat_map space_items (pair_glances_left l.fn.entries)) l.place)
+    (slice_get (flat_map space_items (partial_pairs_left l.value-iterator)) l.before
+    ≡ slice_get (flat_map space_items (partial_pairs_left l.fn.entries)) l.place)

@@ -1,5 +1,5 @@
 use Rattle.std.proofs.Common.{◌≡◌}
-use Rattle.cbor_view.specs.GlanceItems.{glances_left}
+use Rattle.cbor_view.specs.PartialItems.{partial_items_left}
 use Rattle.doc_store.specs.Placed.{placed}
 use Rattle.doc_store.proofs.namespace_faults.item_or_beyond.Given as goal
 
@@ -8,4 +8,4 @@ abbrev pub invariant-loop-item : goal.invariant-loop-item
 invariant-loop-item l =
     (goal.iterator-loop-item).can_next l.item-iterator ×
     (goal.iterator-loop-item).is_finite l.item-iterator ×
-    (placed (glances_left l.item-iterator) l.before ≡ placed (glances_left l.fn.items) l.place)
+    (placed (partial_items_left l.item-iterator) l.before ≡ placed (partial_items_left l.fn.items) l.place)

@@ -1,6 +1,6 @@
 use Rattle.std.proofs.Common.{◌≡◌}
 use Rattle.std.specs.Prelude.{slice_get}
-use Rattle.cbor_view.specs.GlanceItems.{glances_left}
+use Rattle.cbor_view.specs.PartialItems.{partial_items_left}
 use Rattle.doc_store.proofs.passed.item_at.Given as goal
 
 -- of the items that are left it is the one at the place that is left
@@ -8,4 +8,4 @@ abbrev pub invariant-loop-item : goal.invariant-loop-item
 invariant-loop-item l =
     (goal.iterator-loop-item).can_next l.item-iterator ×
     (goal.iterator-loop-item).is_finite l.item-iterator ×
-    (slice_get (glances_left l.item-iterator) l.before ≡ slice_get (glances_left l.fn.items) l.place)
+    (slice_get (partial_items_left l.item-iterator) l.before ≡ slice_get (partial_items_left l.fn.items) l.place)

@@ -1,6 +1,6 @@
 use Rattle.std.proofs.Common.{◌≡◌}
 use Rattle.std.specs.Prelude.{slice_get}
-use Rattle.cbor_view.specs.GlancePairs.{pair_glances_left}
+use Rattle.cbor_view.specs.PartialPairs.{partial_pairs_left}
 use Rattle.doc_store.specs.Faults.{keys_in}
 use Rattle.doc_store.proofs.passed.key_at.Given as goal
 
@@ -9,4 +9,4 @@ abbrev pub invariant-loop-key : goal.invariant-loop-key
 invariant-loop-key l =
     (goal.iterator-loop-key).can_next l.key-iterator ×
     (goal.iterator-loop-key).is_finite l.key-iterator ×
-    (slice_get (keys_in (pair_glances_left l.key-iterator)) l.before ≡ slice_get (keys_in (pair_glances_left l.fn.entries)) l.place)
+    (slice_get (keys_in (partial_pairs_left l.key-iterator)) l.before ≡ slice_get (keys_in (partial_pairs_left l.fn.entries)) l.place)
