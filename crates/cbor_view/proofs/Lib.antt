@@ -15,3 +15,5 @@ pub mod PartialCounts
 pub mod FaultKinds
 pub mod PartialLaws
 pub mod ReadParts
+pub mod WrittenParts
+pub mod Contents

@@ -55,11 +55,11 @@ entries-lie (suc n) all p l =
     let m = within-within all p q l (after-lies p) in
     ((within-within all p (first_part p) l (first-lies p), within-within all q (first_part q) m (first-lies q)), entries-lie n all (after_first q) (within-within all q (after_first q) m (after-lies q)))
 
-values-lie : (all : Part) (label : Label) (es : List (Part × Part)) → AllByRecursion (BothLieIn all) es → AllByRecursion (LiesIn all) (values_of tree_in label es)
+pub values-lie : (all : Part) (label : Label) (es : List (Part × Part)) → AllByRecursion (BothLieIn all) es → AllByRecursion (LiesIn all) (values_of tree_in label es)
 values-lie all label [] l = tt
 values-lie all label (e ∷ es) l = elim (is_label label (tree_in e.0)) as (λ b. AllByRecursion (LiesIn all) (if b then e.1 ∷ values_of tree_in label es else values_of tree_in label es)) [ true ↦ (l.0.1, values-lie all label es l.1) | false ↦ values-lie all label es l.1 ]
 
-only-lies : (all : Part) (ps : List Part) (o : Option Part) → AllByRecursion (LiesIn all) ps → only_of ps ≡ Ok o → IfSome o (LiesIn all)
+pub only-lies : (all : Part) (ps : List Part) (o : Option Part) → AllByRecursion (LiesIn all) ps → only_of ps ≡ Ok o → IfSome o (LiesIn all)
 only-lies all [] o l e = let q : o ≡ None = cc in subst (λ x. IfSome x (LiesIn all)) (sym q) tt
 only-lies all (p ∷ []) o l e = let q : o ≡ Some p = cc in subst (λ x. IfSome x (LiesIn all)) (sym q) l.0
 only-lies all (p ∷ (q ∷ ps)) o l e = absurd (cc)

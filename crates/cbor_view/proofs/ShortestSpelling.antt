@@ -25,7 +25,7 @@ form-holds n h = elim (nat_lt n 24) as (λ b. nat_lt n 24 ≡ b → n < limit (i
   ] refl
 ] refl
 
-head-spelled : (major n : ℕ) → n < 2 ^ 64 → IsHead major n (shortest_head major n)
+pub head-spelled : (major n : ℕ) → n < 2 ^ 64 → IsHead major n (shortest_head major n)
 head-spelled major n h = record { form = shortest_form n; holds = form-holds n h; spelled = refl }
 
 -- ---- trees

@@ -1,0 +1,6 @@
+pub mod Reading
+pub mod Writing
+pub mod WrittenReads
+pub mod Contents
+pub mod Found
+pub mod NamedMap

@@ -1,0 +1,17 @@
+//! What may be handed to another thread and shared with it.
+
+use crate::{MapBuild, MapFault, NamedMap};
+
+fn is_send<T: Send>() {}
+
+fn is_sync<T: Sync>() {}
+
+/// Maps that were read and maps that are written may be handed to another thread, and shared with it.
+pub fn crosses() {
+    is_send::<NamedMap<'static>>();
+    is_sync::<NamedMap<'static>>();
+    is_send::<MapBuild>();
+    is_sync::<MapBuild>();
+    is_send::<MapFault>();
+    is_sync::<MapFault>();
+}
