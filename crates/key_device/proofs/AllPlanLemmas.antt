@@ -76,6 +76,19 @@ starves_front (Draw next) f [] [] [] first = tt
 starves_front (Draw next) f [] (o ∷ os) [] first = absurd first
 starves_front (Draw next) f (e ∷ es) os [] first = absurd first
 
+-- a whole walk is the beginning of one
+pub begins_whole : {A : Type 0} (p : Plan A) (es os : List Exchange) (ws : List ℕ) (a : A) → Walks p es os ws a → Begins p es os ws
+begins_whole (Done x) [] [] [] a walk = tt
+begins_whole (Done x) [] [] (w ∷ ws) a walk = absurd walk
+begins_whole (Done x) [] (o ∷ os) ws a walk = absurd walk
+begins_whole (Done x) (e ∷ es) os ws a walk = absurd walk
+begins_whole (Then ask next) [] os ws a walk = absurd walk
+begins_whole (Then ask next) (e ∷ es) os ws a walk = (walk.0, begins_whole (next e.told) es os ws a walk.1)
+begins_whole (Other ask next) es [] ws a walk = absurd walk
+begins_whole (Other ask next) es (o ∷ os) ws a walk = (walk.0, begins_whole (next o.told) es os ws a walk.1)
+begins_whole (Draw next) es os [] a walk = absurd walk
+begins_whole (Draw next) es os (w ∷ ws) a walk = begins_whole (next w) es os ws a walk
+
 -- What the run of a function that asks two devices and dice shows, at each exit: its first part came
 -- to an outcome, and the rest follows what that calls for;
 pub all_more : {A B : Type 0} {p : Plan A} (f : A → Plan B) {one other one' other' one'' other'' : List Exchange} {dealt dealt' dealt'' : List ℕ} {a : A} {end : End B}
@@ -102,6 +115,19 @@ all_cut {p = p} f first = record {
   words = first.words;
   joined_words = first.joined_words;
   fits = begins_front p f first.gained first.gained_other first.words first.fits;
+}
+
+-- its plan was followed to an outcome, and memory was wanting then;
+pub all_halted : {A : Type 0} {p : Plan A} {one other one' other' : List Exchange} {dealt dealt' : List ℕ} {a : A}
+    → FollowsAll p one other dealt one' other' dealt' (Came a) → FollowsAll p one other dealt one' other' dealt' Wanting
+all_halted {p = p} {a = a} first = record {
+  gained = first.gained;
+  joined = first.joined;
+  gained_other = first.gained_other;
+  joined_other = first.joined_other;
+  words = first.words;
+  joined_words = first.joined_words;
+  fits = begins_whole p first.gained first.gained_other first.words a first.fits;
 }
 
 -- its first part lacked a word;

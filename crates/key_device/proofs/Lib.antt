@@ -1,5 +1,6 @@
 pub mod AllPlanLemmas
 pub mod AllPlanStepLemmas
+pub mod CourseLemmas
 mod GaveFormLemmas
 pub mod GaveLemmas
 mod OverLemmas

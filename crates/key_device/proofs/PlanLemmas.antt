@@ -1,6 +1,6 @@
 -- How plans join, and how the talk of a run with one device follows them.
 use Rattle.std.proofs.Common.{◌≡◌, List, [], ◌∷◌, ◌++◌, Option, Some, None, refl}
-use Rattle.key_device.proofs.AllPlanLemmas.{wrap, by_one, all_more, all_cut, all_ended, all_unasked, all_asked}
+use Rattle.key_device.proofs.AllPlanLemmas.{wrap, by_one, all_more, all_cut, all_halted, all_ended, all_unasked, all_asked}
 use Rattle.key_device.specs.Plan.{Plan, Done, Then, bind, Follows}
 use Rattle.key_device.specs.Recording.{exchange}
 use Rattle.key_device.specs.declared.ask.Ask.{Ask}
@@ -17,6 +17,10 @@ then_more f first second = wrap (all_more f (by_one [] [] first) (by_one [] [] s
 pub cut_short : {A B : Type 0} {p : Plan A} (f : A → Plan B) {old new : List Exchange}
     → Follows p old new None → Follows (bind p f) old new None
 cut_short f first = wrap (all_cut f (by_one [] [] first))
+
+-- its plan was followed to an outcome, and memory was wanting then;
+pub halted : {A : Type 0} {p : Plan A} {old new : List Exchange} {a : A} → Follows p old new (Some a) → Follows p old new None
+halted first = wrap (all_halted (by_one [] [] first))
 
 -- there was nothing to ask;
 pub ended : {A : Type 0} {a : A} (talk : List Exchange) → Follows (Done a) talk talk (Some a)
