@@ -12,12 +12,12 @@ use Rattle.cbor_view.specs.declared.doubled.Doubled.{Doubled}
 use Rattle.cbor_view.specs.Label.{Words, values_of, only_of}
 use Rattle.cbor_view.specs.Parts.{Part, tree_in}
 use Rattle.cbor_view.specs.Reading.{tree_of}
-use Rattle.cbor_view.specs.Shortest.{map_bytes, shortest_head}
+use Rattle.cbor_view.specs.Shortest.{bytes_bytes, map_bytes, shortest_head}
 use Rattle.cbor_view.specs.Spelling.{Fits}
-use Rattle.cbor_view.specs.Tree.{Text}
-use Rattle.cbor_view.proofs.WrittenParts.{IsPiece, piece-shortest, ArePieces, entries_from, pairs_begin, pairs-written, piece-map, tree-shortest}
-use Rattle.cbor_maps.specs.Reading.{entry}
-use Rattle.cbor_maps.specs.Writing.{Fields, with_values, key_bytes, map_head, onto, named_map, spelled_keys}
+use Rattle.cbor_view.specs.Tree.{Bytes, Tag, Text}
+use Rattle.cbor_view.proofs.WrittenParts.{tag-written, IsPiece, piece-shortest, ArePieces, entries_from, pairs_begin, pairs-written, piece-map, tree-shortest}
+use Rattle.cbor_maps.specs.Reading.{entry, encoded_in}
+use Rattle.cbor_maps.specs.Writing.{Fields, with_values, key_bytes, map_head, onto, named_map, spelled_keys, encoded_bytes}
 use Rattle.cbor_maps.specs.WrittenReads.{AreItems, values_named, bytes_under}
 use Rattle.cbor_maps.proofs.Walking.{entry-pairs}
 
@@ -201,3 +201,13 @@ no-value (Err d) e = absurd (cc)
 
 pub under-none : (at : ℕ) (fields : Fields) (name : KeyName) → AreItems (with_values fields) → length (with_values fields) < 2 ^ 32 → only_of (values_named name (with_values fields)) ≡ Ok None → entry (record { at = at; bytes = named_map fields }) name ≡ Ok None
 under-none at fields name are few none = no-value (entry (record { at = at; bytes = named_map fields }) name) (written-field at fields name are few ∙ none)
+
+-- ---- encoded CBOR
+
+pub piece-encoded : (inside : List ℕ) → length inside < 2 ^ 32 → IsPiece 1 (encoded_bytes inside)
+piece-encoded inside short = piece-shortest 1 (Tag 24 (Bytes inside)) (omega arith, short) (omega arith)
+
+pub encoded-again : (at : ℕ) (inside : List ℕ) → length inside < 2 ^ 32 → encoded_in (record { at = at; bytes = encoded_bytes inside }) ≡ Some inside
+encoded-again at inside short =
+    rw (tag-written 24 at (bytes_bytes inside) (omega arith))
+    (rw (tree-shortest (Bytes inside) short (omega arith)) refl)

@@ -3,11 +3,11 @@ use Rattle.std.proofs.Common.{◌≡◌, ℕ, suc, ◌+◌, ◌-◌, ◌<◌, �
 use Rattle.std.specs.Prelude.{flat_map}
 use Rattle.std.proofs.lemmas.List.{append_assoc, length-append}
 use Rattle.cbor_view.specs.declared.heads.Head.TheVariants as heads
-use Rattle.cbor_view.specs.Tree.{Tree, Map, Tag, Pairs, no_pair, pair, pair_count, levels, levels_of_pairs}
-use Rattle.cbor_view.specs.Spelling.{Spelled, PairsSpelled, Fits}
-use Rattle.cbor_view.specs.Shortest.{shortest, shortest_head, map_bytes, tag_bytes}
+use Rattle.cbor_view.specs.Tree.{Tree, Array, Map, Tag, Trees, none, more, Pairs, no_pair, pair, count, pair_count, levels, levels_of_all, levels_of_pairs}
+use Rattle.cbor_view.specs.Spelling.{Spelled, AllSpelled, PairsSpelled, Fits}
+use Rattle.cbor_view.specs.Shortest.{shortest, shortest_head, array_bytes, map_bytes, tag_bytes}
 use Rattle.cbor_view.specs.Reading.{reads, tree_of, tree_or_null}
-use Rattle.cbor_view.specs.Parts.{Part, cbor, part_of, entries_at, map_behind, pairs_in, tag_behind, tag_in}
+use Rattle.cbor_view.specs.Parts.{Part, cbor, part_of, parts_at, entries_at, array_behind, map_behind, items_in, pairs_in, tag_behind, tag_in}
 use Rattle.cbor_view.proofs.HeadReading.{typed-again}
 use Rattle.cbor_view.proofs.ShortestSpelling.{head-spelled, shortest-spelled}
 use Rattle.cbor_view.proofs.Splitting.{is-first}
@@ -121,6 +121,80 @@ piece-map d es p n =
           front = shortest_head 5 (length es);
           rest = flat_map both es;
           first = rw all.counted (head-spelled 5 (length es) (omega arith));
+          second = all.spelled;
+          whole = refl;
+        },
+      );
+      nesting = let nesting = all.nesting in omega arith;
+    }
+
+-- ---- the items of an array
+
+-- each is one item
+abbrev pub AllPieces : ℕ → List (List ℕ) → Type 0
+AllPieces d [] = Unit {0}
+AllPieces d (part ∷ parts) = IsPiece d part × AllPieces d parts
+
+-- the items as parts, from a place on
+abbrev pub parts_from : ℕ → List (List ℕ) → List Part
+parts_from at [] = []
+parts_from at (part ∷ parts) = (record { at = at; bytes = part }) ∷ parts_from (at + length part) parts
+
+abbrev own : List ℕ → List ℕ
+own part = part
+
+parts-body : (d : ℕ) (parts : List (List ℕ)) (at : ℕ) → AllPieces d parts → d ≤ 32 → parts_at (length parts) (record { at = at; bytes = flat_map own parts }) ≡ parts_from at parts
+unfolding parts_at
+parts-body d [] at p h = refl
+parts-body d (part ∷ parts) at p h =
+    let rest = flat_map own parts in
+    let q = p.0 in
+    let f = is-first q.item part rest q.spelled (let n = q.nesting in omega arith) in
+    rw (f.front_is, f.rest_is, f.size_is) (ap (λ (x : List Part). (record { at = at; bytes = part }) ∷ x) (parts-body d parts (at + length part) p.1 h))
+
+-- where the items of an array begin
+abbrev pub items_begin : ℕ → List (List ℕ) → ℕ
+items_begin at parts = at + length (shortest_head 4 (length parts))
+
+pub items-written : (d : ℕ) (parts : List (List ℕ)) (at : ℕ) → AllPieces d parts → d ≤ 32 → length parts < 2 ^ 32 → items_in (record { at = at; bytes = array_bytes parts }) ≡ Some (parts_from (items_begin at parts) parts)
+items-written d parts at p h n =
+    let front = shortest_head 4 (length parts) in
+    let rest = flat_map own parts in
+    let head = typed-again (heads.Array (length parts)) front rest (head-spelled 4 (length parts) (omega arith)) in
+    ap (array_behind (record { at = at; bytes = front ++ rest })) head
+    ∙ ap (λ place. Some (parts_at (length parts) (record { at = place; bytes = rest }))) (body-place at front rest)
+    ∙ ap (λ (x : List Part). Some x) (parts-body d parts (at + length front) p h)
+
+-- the tree of such an array
+record HasItems (d : ℕ) (parts : List (List ℕ)) : Type 0 where
+  items : Trees
+  spelled : AllSpelled items (flat_map own parts)
+  counted : count items ≡ length parts
+  nesting : levels_of_all items ≤ d
+
+has-items : (d : ℕ) (parts : List (List ℕ)) → AllPieces d parts → HasItems d parts
+has-items d [] p = record { items = none; spelled = refl; counted = refl; nesting = omega arith }
+has-items d (part ∷ parts) p =
+    let q = p.0 in
+    let others = has-items d parts p.1 in
+    record {
+      items = more q.item others.items;
+      spelled = record { front = part; rest = flat_map own parts; first = q.spelled; second = others.spelled; whole = refl };
+      counted = ap suc others.counted;
+      nesting = let a = q.nesting in let b = others.nesting in omega arith;
+    }
+
+pub piece-array : (d : ℕ) (parts : List (List ℕ)) → AllPieces d parts → length parts < 2 ^ 32 → IsPiece (d + 1) (array_bytes parts)
+piece-array d parts p n =
+    let all = has-items d parts p in
+    record {
+      item = Array all.items;
+      spelled = (
+        (let counted = all.counted in omega arith),
+        record {
+          front = shortest_head 4 (length parts);
+          rest = flat_map own parts;
+          first = rw all.counted (head-spelled 4 (length parts) (omega arith));
           second = all.spelled;
           whole = refl;
         },
