@@ -31,3 +31,9 @@ abbrev pub IsReadAsWritten : Type 0
 IsReadAsWritten =
     (draft : CertDraft) (pair : List ℕ) → IsDraft draft → length pair ≡ 64
     → certificate (written draft pair) ≡ Ok (fields_of draft pair)
+
+-- The bytes are read as the draft's fields with a signature of 64 bytes.
+pub record IsReadBack (draft : CertDraft) (bytes : List ℕ) : Type 0 where
+  pub pair : List ℕ
+  pub size : length pair ≡ 64
+  pub read : certificate bytes ≡ Ok (fields_of draft pair)
