@@ -1,3 +1,4 @@
 pub mod Walking
 pub mod WrittenMaps
 pub mod Within
+pub mod LabelledMaps

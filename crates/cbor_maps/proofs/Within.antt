@@ -3,6 +3,7 @@ use Rattle.std.proofs.Common.{◌≡◌, ℕ, List, [], ◌∷◌, ◌++◌, ◌
 use Rattle.std.proofs.lemmas.List.{append_assoc, append-nil}
 use Rattle.mdoc_outside.specs.declared.key_name.KeyName.{KeyName}
 use Rattle.mdoc_outside.specs.KeyName.{key_text}
+use Rattle.mdoc_outside.specs.ResultSteps.{◌>>=◌, or_fault}
 use Rattle.cbor_view.specs.declared.doubled.Doubled as views
 use Rattle.cbor_view.specs.Label.{Words}
 use Rattle.cbor_view.specs.Opening.{EndsWith}
@@ -83,3 +84,19 @@ tagged-part n p b is = go (tag_in p) refl is where
 
 pub encoded-under : (map p : Part) (name : KeyName) (b : List ℕ) → entry map name ≡ Ok (Some p) → encoded_in p ≡ Some b → IsPart map.bytes b
 encoded-under map p name b under is = in-value map p name b under (tagged-part 24 p b is)
+
+-- ---- steps that succeed
+
+-- a step that gave a value, and what came after it
+pub record Step {A B E : Type 0} (r : Result A E) (next : A → Result B E) (y : B) : Type 0 where
+  pub value : A
+  pub is : r ≡ Ok value
+  pub after : next value ≡ Ok y
+
+pub step : {A B E : Type 0} (r : Result A E) (next : A → Result B E) (y : B) → (r >>= next) ≡ Ok y → Step r next y
+step (Ok x) next y e = record { value = x; is = refl; after = e }
+step (Err d) next y e = absurd (cc)
+
+pub given : {A E : Type 0} (fault : E) (o : Option A) (x : A) → or_fault fault o ≡ Ok x → o ≡ Some x
+given fault None x e = absurd (cc)
+given fault (Some y) x e = cc

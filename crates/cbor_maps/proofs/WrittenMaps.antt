@@ -1,6 +1,6 @@
 -- A map that was written is read as its fields.
 use Rattle.std.proofs.Common.{◌≡◌, ℕ, zero, suc, nat_lt, get_or, ◌+◌, ◌<◌, ◌^◌, if◌then◌else◌, Bool, true, false, List, [], ◌∷◌, ◌++◌, length, bytes_eq, Option, Some, None, Result, Ok, Err, refl, sym, ap, ◌∙◌, arith}
-use Rattle.std.specs.Prelude.{flat_map, map}
+use Rattle.std.specs.Prelude.{flat_map, map, IsUtf8}
 use Rattle.std.specs.List.{list_all}
 use Rattle.std.proofs.lemmas.List.{append_assoc, append-nil}
 use Rattle.std.proofs.lemmas.Bool.{and_parts, ltb-true}
@@ -23,7 +23,7 @@ use Rattle.cbor_maps.proofs.Walking.{entry-pairs}
 
 -- ---- the bytes of a map
 
-abbrev both : List ℕ × List ℕ → List ℕ
+abbrev pub both : List ℕ × List ℕ → List ℕ
 both e = e.0 ++ e.1
 
 onto-bytes : (bytes : List ℕ) (fields : Fields) → onto bytes fields ≡ bytes ++ flat_map both (spelled_keys (with_values fields))
@@ -47,13 +47,16 @@ named-map fields =
 -- ---- its keys are items
 
 -- texts of ASCII are UTF-8
-abbrev is_ascii : List ℕ → Bool
+abbrev pub is_ascii : List ℕ → Bool
 is_ascii text = list_all (λ b. nat_lt b 128) text
 
 ascii-each : (text : List ℕ) → is_ascii text ≡ true → (i : ℕ) → get_or text i 0 < 128
 ascii-each [] e i = omega arith
 ascii-each (b ∷ bs) e zero = ltb-true b 128 (and_parts (nat_lt b 128) (is_ascii bs) e).0
 ascii-each (b ∷ bs) e (suc i) = ascii-each bs (and_parts (nat_lt b 128) (is_ascii bs) e).1 i
+
+pub utf8-ascii : (text : List ℕ) → is_ascii text ≡ true → IsUtf8 text
+utf8-ascii text e = IsUtf8-from_ascii text (ascii-each text e)
 
 key-ascii : (name : KeyName) → is_ascii (key_text name) ≡ true
 key-ascii DigestId = refl
@@ -132,7 +135,7 @@ key-short Key = omega arith
 key-short Used = omega arith
 
 key-fits : (name : KeyName) → Fits (Text (key_text name))
-key-fits name = (key-short name, IsUtf8-from_ascii (key_text name) (ascii-each (key_text name) (key-ascii name)))
+key-fits name = (key-short name, utf8-ascii (key_text name) (key-ascii name))
 
 pub tree-key : (name : KeyName) → tree_of (key_bytes name) ≡ Text (key_text name)
 unfolding key_bytes
@@ -152,7 +155,7 @@ piece-named fields are few = rw (named-map fields) (piece-map 31 (spelled_keys (
 
 -- ---- what is under its keys
 
-abbrev part_bytes : Part → List ℕ
+abbrev pub part_bytes : Part → List ℕ
 part_bytes p = p.bytes
 
 values-named : (name : KeyName) (at : ℕ) (fields : List (KeyName × List ℕ)) → map part_bytes (values_of tree_in (Words (key_text name)) (entries_from at (spelled_keys fields))) ≡ values_named name fields
@@ -165,7 +168,7 @@ values-named name at (field ∷ fields) =
       | false ↦ others
     ])
 
-only-bytes : (parts : List Part) → bytes_under (only_of parts) ≡ only_of (map part_bytes parts)
+pub only-bytes : (parts : List Part) → bytes_under (only_of parts) ≡ only_of (map part_bytes parts)
 only-bytes [] = refl
 only-bytes (p ∷ []) = refl
 only-bytes (p ∷ (q ∷ ps)) = refl
@@ -184,7 +187,7 @@ pub record IsUnder (map : Part) (name : KeyName) (value : List ℕ) : Type 0 whe
   pub at : ℕ
   pub is : entry map name ≡ Ok (Some (record { at = at; bytes = value }))
 
-one-value : (r : Result (Option Part) Doubled) (value : List ℕ) → bytes_under r ≡ Ok (Some value) → (at : ℕ) × (r ≡ Ok (Some (record { at = at; bytes = value })))
+pub one-value : (r : Result (Option Part) Doubled) (value : List ℕ) → bytes_under r ≡ Ok (Some value) → (at : ℕ) × (r ≡ Ok (Some (record { at = at; bytes = value })))
 one-value (Ok (Some p)) value e = let same : p.bytes ≡ value = cc in (p.at, ap (λ (b : List ℕ). Ok (Some (record { at = p.at; bytes = b }))) same)
 one-value (Ok None) value e = absurd (cc)
 one-value (Err d) value e = absurd (cc)
@@ -194,7 +197,7 @@ under at fields name value are few one =
     let v = one-value (entry (record { at = at; bytes = named_map fields }) name) value (written-field at fields name are few ∙ one) in
     record { at = v.0; is = v.1 }
 
-no-value : (r : Result (Option Part) Doubled) → bytes_under r ≡ Ok None → r ≡ Ok None
+pub no-value : (r : Result (Option Part) Doubled) → bytes_under r ≡ Ok None → r ≡ Ok None
 no-value (Ok (Some p)) e = absurd (cc)
 no-value (Ok None) e = refl
 no-value (Err d) e = absurd (cc)

@@ -1,11 +1,12 @@
 -- That a map which was written is read as its fields.
-use Rattle.std.specs.Prelude.{ℕ, ◌≤◌, if◌then◌else◌, List, [], ◌∷◌, bytes_eq, Option, Result, Ok, Err, option_map}
+use Rattle.std.specs.Prelude.{ℤ, ℕ, ◌≤◌, if◌then◌else◌, List, [], ◌∷◌, bytes_eq, Option, Result, Ok, Err, option_map}
 use Rattle.mdoc_outside.specs.declared.key_name.KeyName.{KeyName}
 use Rattle.mdoc_outside.specs.KeyName.{key_text}
 use Rattle.cbor_view.specs.declared.doubled.Doubled.{Doubled}
 use Rattle.cbor_view.specs.Parts.{Part}
 use Rattle.cbor_view.specs.Spelling.{Spells}
 use Rattle.cbor_view.specs.Tree.{Tree, levels}
+use Rattle.cbor_maps.specs.Labels.{IsLabel}
 
 -- the bytes spell one item, of so many levels at most
 pub record SpellsItem (most : ℕ) (bytes : List ℕ) : Type 0 where
@@ -17,6 +18,11 @@ pub record SpellsItem (most : ℕ) (bytes : List ℕ) : Type 0 where
 abbrev pub AreItems : List (KeyName × List ℕ) → Type 0
 AreItems [] = Unit {0}
 AreItems (field ∷ fields) = SpellsItem 31 field.1 × AreItems fields
+
+-- the same under numbers that have a spelling
+abbrev pub AreLabelled : List (ℤ × List ℕ) → Type 0
+AreLabelled [] = Unit {0}
+AreLabelled (field ∷ fields) = IsLabel field.0 × SpellsItem 31 field.1 × AreLabelled fields
 
 -- the values of a name
 abbrev pub values_named : KeyName → List (KeyName × List ℕ) → List (List ℕ)

@@ -1,4 +1,4 @@
-//! Maps of CBOR whose keys are named by a table: read with their first fault, and written in the order of
+//! Maps of CBOR whose keys are named by a table, or are numbers: read with their first fault, and written in the order of
 //! the table.
 //!
 //! The one contract: what is read of a map is what is under its named keys, each of which is there once, and
@@ -13,7 +13,9 @@ mod map_fault;
 mod named_map;
 mod sharing;
 
-pub use laws::{named_map_is_spelled, written_field_is_read};
+pub use laws::{
+    labelled_map_is_spelled, named_map_is_spelled, written_field_is_read, written_label_is_read,
+};
 pub use map_build::MapBuild;
 pub use map_fault::MapFault;
 pub use named_map::NamedMap;

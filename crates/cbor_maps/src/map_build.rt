@@ -3,6 +3,7 @@
 ghost use Rattle.std.specs.Prelude.{◌≡◌, ◌++◌, ◌<◌, ◌^◌, ℕ, List, length, IfOk, OnOk, Some, option_map};
 ghost use Rattle.cbor_view.specs.Shortest.{boolean_bytes, bytes_bytes, text_bytes, uint_bytes};
 ghost use Rattle.cbor_view.specs.View.{part};
+ghost use Rattle.cbor_maps.specs.Labels.{label_bytes, put_labelled};
 ghost use Rattle.cbor_maps.specs.Writing.{put, key_bytes, map_head, encoded_bytes};
 
 use cbor_view::View;
@@ -143,6 +144,35 @@ impl MapBuild {
             Some(item) => self.spelled(name, item),
             None => Ok(self),
         }
+    }
+
+    /// A number as a key, whose value the next call writes.
+    #[tactic(auto, unfolding(crate::specs::Labels::label_bytes))]
+    fn label(self, number: i64) -> Result<Build, Memory>
+        ensures { IfOk result (λ b. b ≡ self ++ label_bytes number) }
+    {
+        let MapBuild { mut out } = self;
+        out.int(number)?;
+        Ok(out)
+    }
+
+    /// A field under a number, with an unsigned number.
+    pub fn labelled_uint(self, label: i64, number: u64) -> Result<MapBuild, Memory>
+        ensures { IfOk result (λ b. b ≡ put_labelled self label (Some (uint_bytes number))) }
+    {
+        let mut out = self.label(label)?;
+        out.uint(number)?;
+        Ok(MapBuild { out })
+    }
+
+    /// A field under a number, with a string of bytes.
+    pub fn labelled_bytes(self, label: i64, bytes: &[u8]) -> Result<MapBuild, Memory>
+        ensures written { IfOk result (λ b. b ≡ put_labelled self label (Some (bytes_bytes bytes.now))) }
+        ensures short { OnOk result (length bytes.now < 2 ^ 32) }
+    {
+        let mut out = self.label(label)?;
+        out.bytes(bytes)?;
+        Ok(MapBuild { out })
     }
 
     /// The bytes of the map.

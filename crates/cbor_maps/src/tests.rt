@@ -1,6 +1,9 @@
 //! Maps that are read and written: each call once.
 
-use crate::{MapBuild, MapFault, NamedMap, crosses, named_map_is_spelled, written_field_is_read};
+use crate::{
+    MapBuild, MapFault, NamedMap, crosses, labelled_map_is_spelled, named_map_is_spelled,
+    written_field_is_read, written_label_is_read,
+};
 use cbor_view::View;
 use mdoc_outside::KeyName;
 use std::test::Fail;
@@ -108,7 +111,14 @@ fn writes_each_kind(rt: HostRuntime) -> Result<(), Fail> {
         map.as_slice(),
         b"\xa9\x67version\x631.0\x66status\x0a\x64data\x42\x01\x02\x64used\xf5\x64auth\x18\x05\x66errors\xa0\x69deviceKey\xd8\x18\x41\x00\x63key\x01\x69documents\x80".as_slice()
     );
+    let labelled = MapBuild::new(rt.alloc(), 2)?
+        .labelled_uint(1, 2)?
+        .labelled_bytes(-2, b"\x05")?
+        .finish();
+    assert_eq!(rt; labelled.as_slice(), b"\xa2\x01\x02\x21\x41\x05".as_slice());
     named_map_is_spelled();
     written_field_is_read();
+    labelled_map_is_spelled();
+    written_label_is_read();
     Ok(())
 }

@@ -1,5 +1,5 @@
 -- What is written from parts is read as these parts: the pairs of a map, the item under a tag.
-use Rattle.std.proofs.Common.{◌≡◌, ℕ, suc, ◌+◌, ◌-◌, ◌<◌, ◌≤◌, ◌^◌, List, [], ◌∷◌, ◌++◌, length, Some, Ok, refl, ap, ◌∙◌, arith}
+use Rattle.std.proofs.Common.{◌≡◌, ℕ, suc, ◌+◌, ◌-◌, ◌<◌, ◌≤◌, ◌^◌, List, [], ◌∷◌, ◌++◌, length, Some, None, Ok, refl, ap, ◌∙◌, arith}
 use Rattle.std.specs.Prelude.{flat_map}
 use Rattle.std.proofs.lemmas.List.{append_assoc, length-append}
 use Rattle.cbor_view.specs.declared.heads.Head.TheVariants as heads
@@ -164,6 +164,13 @@ items-written d parts at p h n =
     ap (array_behind (record { at = at; bytes = front ++ rest })) head
     ∙ ap (λ place. Some (parts_at (length parts) (record { at = place; bytes = rest }))) (body-place at front rest)
     ∙ ap (λ (x : List Part). Some x) (parts-body d parts (at + length front) p h)
+
+-- an array is under no tag
+pub array-untagged : (parts : List (List ℕ)) (at : ℕ) → length parts < 2 ^ 32 → tag_in (record { at = at; bytes = array_bytes parts }) ≡ None
+array-untagged parts at n =
+    let front = shortest_head 4 (length parts) in
+    let rest = flat_map own parts in
+    ap (tag_behind (record { at = at; bytes = front ++ rest })) (typed-again (heads.Array (length parts)) front rest (head-spelled 4 (length parts) (omega arith)))
 
 -- the tree of such an array
 record HasItems (d : ℕ) (parts : List (List ℕ)) : Type 0 where

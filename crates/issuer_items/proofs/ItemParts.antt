@@ -10,21 +10,11 @@ use Rattle.cbor_maps.specs.declared.map_fault.MapFault.{MapFault}
 use Rattle.cbor_maps.specs.declared.map_fault.MapFault.TheVariants as maps
 use Rattle.cbor_maps.specs.Contents.{IsPart}
 use Rattle.cbor_maps.specs.Reading.{distinct, field, any_in, encoded_in}
-use Rattle.cbor_maps.proofs.Within.{part-within, lies-part, under-lies, field-read, bytes-under, text-under, tagged-part}
+use Rattle.cbor_maps.proofs.Within.{step, part-within, lies-part, under-lies, field-read, bytes-under, text-under, tagged-part}
 use Rattle.issuer_items.specs.declared.item_fault.ItemFault.{ItemFault}
 use Rattle.issuer_items.specs.declared.item_fault.ItemFault.TheVariants as faults
 use Rattle.issuer_items.specs.Item.{Item, item, item_of_map, map_fault, tagged_string, spelled_item}
 use Rattle.issuer_items.specs.ItemView.{AreParts}
-
--- a step that succeeded, and what came after it
-record Step {A B E : Type 0} (r : Result A E) (next : A → Result B E) (y : B) : Type 0 where
-  value : A
-  is : r ≡ Ok value
-  after : next value ≡ Ok y
-
-step : {A B E : Type 0} (r : Result A E) (next : A → Result B E) (y : B) → (r >>= next) ≡ Ok y → Step r next y
-step (Ok x) next y e = record { value = x; is = refl; after = e }
-step (Err d) next y e = absurd (cc)
 
 abbrev last : ℕ → List ℕ → List ℕ → Part → Result Item MapFault
 last digest_id random name value = Ok (record { digest_id = digest_id; random = random; name = name; value = value.bytes })

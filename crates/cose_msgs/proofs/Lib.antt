@@ -1,0 +1,5 @@
+pub mod FourParts
+pub mod MessageParts
+pub mod StructureLaws
+pub mod WrittenKeys
+pub mod WrittenMessages

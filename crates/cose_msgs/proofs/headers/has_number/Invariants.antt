@@ -1,0 +1,12 @@
+use Rattle.std.proofs.Common.{◌≡◌, Some}
+use Rattle.cbor_view.specs.Label.{Number}
+use Rattle.cbor_view.specs.Pairs.{pairs_left}
+use Rattle.cose_msgs.specs.Headers.{has_label}
+use Rattle.cose_msgs.proofs.headers.has_number.Given as goal
+
+-- the keys that are left tell what all of them tell
+abbrev pub invariant-loop-key : goal.invariant-loop-key
+invariant-loop-key l =
+    (goal.iterator-loop-key).can_next l.key-iterator ×
+    (goal.iterator-loop-key).is_finite l.key-iterator ×
+    (has_label (Some (Number l.number)) (pairs_left l.key-iterator) ≡ has_label (Some (Number l.number)) (pairs_left l.fn.entries))

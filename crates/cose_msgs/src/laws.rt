@@ -1,0 +1,19 @@
+//! What holds of the definitions alone. Each is the contract of a function that does nothing.
+
+ghost use Rattle.std.specs.Prelude.{◌≡◌, ◌<◌, ◌^◌, ℕ, List, length};
+ghost use Rattle.cose_msgs.specs.Structures.{mac_structure, signed_structure};
+
+/// What is signed determines the protected bytes and the payload.
+pub fn signature_determines_parts()
+    ensures { (protected payload others other : List ℕ) → length protected < 2 ^ 32 → length payload < 2 ^ 32 → length others < 2 ^ 32 → length other < 2 ^ 32 → signed_structure protected payload ≡ signed_structure others other → (protected ≡ others) × (payload ≡ other) }
+{}
+
+/// So does what is authenticated.
+pub fn mac_determines_parts()
+    ensures { (protected payload others other : List ℕ) → length protected < 2 ^ 32 → length payload < 2 ^ 32 → length others < 2 ^ 32 → length other < 2 ^ 32 → mac_structure protected payload ≡ mac_structure others other → (protected ≡ others) × (payload ≡ other) }
+{}
+
+/// What is signed is never what is authenticated, whatever their parts.
+pub fn context_is_told_apart()
+    ensures { (protected payload others other : List ℕ) → signed_structure protected payload ≡ mac_structure others other → ⊥ }
+{}

@@ -1,0 +1,29 @@
+//! COSE messages and keys (RFC 9052, RFC 9053, RFC 9360) as mobile documents use them: signatures of one
+//! signer with ES256, codes of HMAC 256/256, and keys of the curve P-256.
+//!
+//! The one contract: an item is read exactly where it is such a message, else with the first check that
+//! fails, what was written is read as it was given, and what is signed or authenticated determines its parts.
+#![tactic(auto)]
+
+mod chain;
+mod cose_fault;
+mod cose_key;
+mod headers;
+mod key_fault;
+mod laws;
+mod mac0;
+mod message;
+mod sharing;
+mod sign1;
+mod structures;
+mod written;
+
+pub use cose_fault::CoseFault;
+pub use cose_key::CoseKey;
+pub use key_fault::KeyFault;
+pub use laws::{context_is_told_apart, mac_determines_parts, signature_determines_parts};
+pub use mac0::Mac0;
+pub use sharing::crosses;
+pub use sign1::Sign1;
+pub use structures::{mac_bytes, signed_bytes};
+pub use written::{write_key, write_mac0, write_sign1};

@@ -1,0 +1,21 @@
+//! What may be handed to another thread and shared with it.
+
+use crate::{CoseFault, CoseKey, KeyFault, Mac0, Sign1};
+
+fn is_send<T: Send>() {}
+
+fn is_sync<T: Sync>() {}
+
+/// Messages and keys may be handed to another thread, and shared with it.
+pub fn crosses() {
+    is_send::<Sign1<'static>>();
+    is_sync::<Sign1<'static>>();
+    is_send::<Mac0<'static>>();
+    is_sync::<Mac0<'static>>();
+    is_send::<CoseKey>();
+    is_sync::<CoseKey>();
+    is_send::<CoseFault>();
+    is_sync::<CoseFault>();
+    is_send::<KeyFault>();
+    is_sync::<KeyFault>();
+}
