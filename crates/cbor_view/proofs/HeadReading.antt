@@ -111,24 +111,24 @@ number_if b w bytes = if b then Err Truncated else Ok (from_be_bytes w (take (by
 abbrev read : ℕ → List ℕ → Result (ℕ × List ℕ) CborKind
 read n rest = Ok (n, rest)
 
-bound_1 : (xs : List ℕ) → ((i : ℕ) → get_or xs i 0 < 256) → from_be_bytes w8 xs < 2 ^ 8
+pub bound_1 : (xs : List ℕ) → ((i : ℕ) → get_or xs i 0 < 256) → from_be_bytes w8 xs < 2 ^ 8
 bound_1 xs each = omega (arith, each 0)
 
-bound_2 : (xs : List ℕ) → ((i : ℕ) → get_or xs i 0 < 256) → from_be_bytes w16 xs < 2 ^ 16
+pub bound_2 : (xs : List ℕ) → ((i : ℕ) → get_or xs i 0 < 256) → from_be_bytes w16 xs < 2 ^ 16
 bound_2 xs each = omega (arith, each 0, each 1)
 
-bound_4 : (xs : List ℕ) → ((i : ℕ) → get_or xs i 0 < 256) → from_be_bytes w32 xs < 2 ^ 32
+pub bound_4 : (xs : List ℕ) → ((i : ℕ) → get_or xs i 0 < 256) → from_be_bytes w32 xs < 2 ^ 32
 bound_4 xs each = omega (arith, each 0, each 1, each 2, each 3)
 
-bound_8 : (xs : List ℕ) → ((i : ℕ) → get_or xs i 0 < 256) → from_be_bytes w64 xs < 2 ^ 64
+pub bound_8 : (xs : List ℕ) → ((i : ℕ) → get_or xs i 0 < 256) → from_be_bytes w64 xs < 2 ^ 64
 bound_8 xs each = omega (arith, each 0, each 1, each 2, each 3, each 4, each 5, each 6, each 7)
 
-one_byte : (bs : List ℕ) (n : ℕ) → length bs ≡ 1 → ((i : ℕ) → get_or bs i 0 < 256) → n ≡ from_be_bytes w8 bs → to_be_bytes w8 n ≡ bs
+pub one_byte : (bs : List ℕ) (n : ℕ) → length bs ≡ 1 → ((i : ℕ) → get_or bs i 0 < 256) → n ≡ from_be_bytes w8 bs → to_be_bytes w8 n ≡ bs
 one_byte [] n l each e = absurd (cc)
 one_byte (b ∷ []) n l each e = let small : b < 256 = each 0 in let m : n % 256 ≡ b = omega arith in rw m refl
 one_byte (b ∷ (d ∷ bs)) n l each e = absurd (grind arith)
 
-number-sound_1 : (bytes rest : List ℕ) (n : ℕ) → AreBytes bytes → number_at w8 bytes ≡ Ok (n, rest) → (n < 2 ^ 8) × (bytes ≡ to_be_bytes w8 n ++ rest)
+pub number-sound_1 : (bytes rest : List ℕ) (n : ℕ) → AreBytes bytes → number_at w8 bytes ≡ Ok (n, rest) → (n < 2 ^ 8) × (bytes ≡ to_be_bytes w8 n ++ rest)
 number-sound_1 bytes rest n are = elim (nat_lt (length bytes) 1) as (λ t. nat_lt (length bytes) 1 ≡ t → number_if t w8 bytes ≡ read n rest → (n < 2 ^ 8) × (bytes ≡ to_be_bytes w8 n ++ rest)) [
   | true ↦ λ t e. absurd (cc)
   | false ↦ λ t e.
@@ -205,16 +205,16 @@ record Argument (info : ℕ) (bytes rest : List ℕ) (n : ℕ) : Type 0 where
   told : information form n ≡ info
   whole : bytes ≡ argument form n ++ rest
 
-abbrev from_27 : ℕ → List ℕ → Result (ℕ × List ℕ) CborKind
+abbrev pub from_27 : ℕ → List ℕ → Result (ℕ × List ℕ) CborKind
 from_27 info rest = if info == 27 then number_at w64 rest else Err Reserved
 
-abbrev from_26 : ℕ → List ℕ → Result (ℕ × List ℕ) CborKind
+abbrev pub from_26 : ℕ → List ℕ → Result (ℕ × List ℕ) CborKind
 from_26 info rest = if info == 26 then number_at w32 rest else from_27 info rest
 
-abbrev from_25 : ℕ → List ℕ → Result (ℕ × List ℕ) CborKind
+abbrev pub from_25 : ℕ → List ℕ → Result (ℕ × List ℕ) CborKind
 from_25 info rest = if info == 25 then number_at w16 rest else from_26 info rest
 
-abbrev from_24 : ℕ → List ℕ → Result (ℕ × List ℕ) CborKind
+abbrev pub from_24 : ℕ → List ℕ → Result (ℕ × List ℕ) CborKind
 from_24 info rest = if info == 24 then number_at w8 rest else from_25 info rest
 
 sound_27 : (info : ℕ) (bytes rest : List ℕ) (n : ℕ) → AreBytes bytes → from_27 info bytes ≡ read n rest → Argument info bytes rest n

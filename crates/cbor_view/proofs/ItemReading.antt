@@ -34,12 +34,12 @@ string-again left b rest lt =
 text-again : (left : ℕ) (b rest : List ℕ) → length b < 2 ^ 32 → IsUtf8 b → text_at left (length b) (b ++ rest) ≡ read b rest
 text-again left b rest lt good = rw (string-again left b rest lt) (rw (is_utf8-from_IsUtf8 b good) refl)
 
-record IsString (n : ℕ) (bytes b rest : List ℕ) : Type 0 where
-  short : n < 2 ^ 32
-  len : length b ≡ n
-  whole : bytes ≡ b ++ rest
+pub record IsString (n : ℕ) (bytes b rest : List ℕ) : Type 0 where
+  pub short : n < 2 ^ 32
+  pub len : length b ≡ n
+  pub whole : bytes ≡ b ++ rest
 
-string-sound : (left n : ℕ) (bytes b rest : List ℕ) → string_at left n bytes ≡ read b rest → IsString n bytes b rest
+pub string-sound : (left n : ℕ) (bytes b rest : List ℕ) → string_at left n bytes ≡ read b rest → IsString n bytes b rest
 string-sound left n bytes b rest e = elim (if-cases (nat_lt (length bytes) n) (stop Truncated left) (if nat_lt n (2 ^ 32) then read (take n bytes) (drop n bytes) else stop Length left) (read b rest) e) [
   | inl d ↦ absurd (cc)
   | inr d ↦ elim (if-cases (nat_lt n (2 ^ 32)) (read (take n bytes) (drop n bytes)) (stop Length left) (read b rest) d.1) [
@@ -52,7 +52,7 @@ string-sound left n bytes b rest e = elim (if-cases (nat_lt (length bytes) n) (s
   ]
 ]
 
-text-sound : (left n : ℕ) (bytes b rest : List ℕ) → text_at left n bytes ≡ read b rest → IsString n bytes b rest × IsUtf8 b
+pub text-sound : (left n : ℕ) (bytes b rest : List ℕ) → text_at left n bytes ≡ read b rest → IsString n bytes b rest × IsUtf8 b
 text-sound left n bytes b rest e =
     let s = bind-ok (string_at left n bytes) (λ s. if is_utf8 s.0 then Ok s else stop BadText left) (b, rest) e in
     elim (if-cases (is_utf8 s.value.0) (Ok s.value) (stop BadText left) (read b rest) s.after) [
@@ -65,7 +65,7 @@ text-sound left n bytes b rest e =
 
 -- ---- each spelling is read
 
-started : (d : ℕ) (h : Head) (front rest : List ℕ) → HeadOf h front → item_at d (front ++ rest) ≡ behind (inner d) (length (front ++ rest)) h rest
+pub started : (d : ℕ) (h : Head) (front rest : List ℕ) → HeadOf h front → item_at d (front ++ rest) ≡ behind (inner d) (length (front ++ rest)) h rest
 started d h front rest is = item-inner d (front ++ rest) ∙ ap (behind_head (inner d) (length (front ++ rest))) (typed-again h front rest is)
 
 -- a head and a body
@@ -165,10 +165,10 @@ pub record PairsRead (d n : ℕ) (bytes : List ℕ) (ps : Pairs) (rest : List �
 finished : (d : ℕ) (bytes front mid rest : List ℕ) (t u : Tree) → Spelled t front → levels t ≤ d → bytes ≡ front ++ mid → read t mid ≡ read u rest → ReadAs d bytes u rest
 finished d bytes front mid rest t u s l w e = subst (λ x. ReadAs d bytes x rest) (first-same (t, mid) (u, rest) e) (record { front = front; spelled = s; nesting = l; whole = w ∙ ap (λ r. front ++ r) (second-same (t, mid) (u, rest) e) })
 
-bytes-after : (bytes front rest : List ℕ) → bytes ≡ front ++ rest → AreBytes bytes → AreBytes rest
+pub bytes-after : (bytes front rest : List ℕ) → bytes ≡ front ++ rest → AreBytes bytes → AreBytes rest
 bytes-after bytes front rest w are = AreBytes-behind front rest (subst AreBytes w are)
 
-joined : (a b c d e : List ℕ) → a ≡ b ++ c → c ≡ d ++ e → a ≡ (b ++ d) ++ e
+pub joined : (a b c d e : List ℕ) → a ≡ b ++ c → c ≡ d ++ e → a ≡ (b ++ d) ++ e
 joined a b c d e p q = p ∙ ap (λ x. b ++ x) q ∙ sym (append_assoc b d e)
 
 more_items : Reader Tree → ℕ → Tree × List ℕ → Result (Trees × List ℕ) Stop

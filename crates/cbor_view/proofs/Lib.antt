@@ -13,6 +13,10 @@ pub mod PartialParts
 pub mod PartialOpening
 pub mod PartialCounts
 pub mod FaultKinds
+pub mod FaultsRead
+pub mod FaultsDue
+pub mod FaultsFound
+pub mod FirstFaultLaws
 pub mod PartialLaws
 pub mod ReadParts
 pub mod WrittenParts

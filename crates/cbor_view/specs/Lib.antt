@@ -3,6 +3,7 @@ pub mod Label
 pub mod Spelling
 pub mod Shortest
 pub mod Reading
+pub mod FirstFault
 pub mod Parts
 pub mod Opening
 pub mod View

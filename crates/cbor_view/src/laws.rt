@@ -7,6 +7,7 @@ ghost use Rattle.cbor_view.specs.Tree.{Tree, levels};
 ghost use Rattle.cbor_view.specs.Spelling.{AreBytes, Spells, Fits};
 ghost use Rattle.cbor_view.specs.Shortest.{shortest};
 ghost use Rattle.cbor_view.specs.Reading.{reads};
+ghost use Rattle.cbor_view.specs.FirstFault.{IsFirstFault, IsFaultless, IsItem};
 ghost use Rattle.cbor_view.specs.Parts.{Part, LiesIn};
 ghost use Rattle.cbor_view.specs.PartialItem.{whole, front_item, fault_in};
 
@@ -23,6 +24,17 @@ pub fn no_prefix()
 /// The reading of bytes gives a tree exactly where they spell it.
 pub fn reads_spelled()
     ensures { (bytes : List ℕ) (t : Tree) → AreBytes bytes → (reads bytes ≡ Ok t) ↔ Spells bytes t }
+{}
+
+/// A reading tells the first fault of bytes: of all their faults the one at the least place, and there
+/// the first in the order of `CborKind`.
+pub fn first_fault()
+    ensures { (bytes : List ℕ) (fault : CborFault) → AreBytes bytes → (reads bytes ≡ Err fault) ↔ IsFirstFault bytes fault }
+{}
+
+/// Bytes have no fault exactly where they are one item.
+pub fn faultless_is_item()
+    ensures { (bytes : List ℕ) → AreBytes bytes → IsFaultless bytes ↔ IsItem bytes }
 {}
 
 /// The shortest spelling of a tree (RFC 8949, section 4.2.1) spells it.
