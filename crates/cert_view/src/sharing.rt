@@ -13,7 +13,7 @@ fn is_sync<T: Sync>() {}
 
 /// Certificates, what is asked of them, roots and their faults may be handed to another thread, and
 /// shared with it.
-pub fn crosses() {
+pub fn types_are_send_and_sync() {
     is_send::<Cert<'static>>();
     is_sync::<Cert<'static>>();
     is_send::<VerifyAsk<'static>>();
