@@ -34,6 +34,7 @@ mod simple_keys;
 mod store;
 mod store_check;
 mod store_fault;
+mod store_file;
 mod stored_copy;
 mod stored_item;
 
@@ -48,6 +49,7 @@ pub use sharing::types_are_send_and_sync;
 pub use store::Store;
 pub use store_check::StoreCheck;
 pub use store_fault::StoreFault;
+pub use store_file::StoreFile;
 pub use stored_copy::StoredCopy;
 
 #[cfg(test)]

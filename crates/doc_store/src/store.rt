@@ -19,7 +19,7 @@ use std::alloc::Global;
 /// them anew in each call.
 #[derive(Clone, Copy)]
 pub struct Store<'a> {
-    bytes: &'a [u8],
+    pub(crate) bytes: &'a [u8],
     ghost spelled: { is_some (store bytes.now) ≡ true },
 }
 

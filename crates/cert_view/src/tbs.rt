@@ -4,18 +4,18 @@ ghost use Rattle.std.specs.Prelude.{◌≡◌, option_map};
 ghost use Rattle.der_view.specs.Der.{part};
 ghost use Rattle.der_view.specs.PartsLeft.{left};
 ghost use Rattle.der_view.specs.Reading.{Gives};
-ghost use Rattle.cert_view.specs.Shapes.{shaped};
-ghost use Rattle.cert_view.specs.Signed.{version, one_or_two, algorithm, time, validity, key_algorithm, point_under, public_key, behind_unique, extensions, stated_version, numbering, heading, names, values, contents, to_be_signed};
-ghost use Rattle.cert_view.specs.SignedParts.{laid_out};
-ghost use Rattle.cert_view.specs.Cert.{signed_fields};
+ghost use Rattle.cert_view.specs.Shapes.{of_shape};
+ghost use Rattle.cert_view.specs.Tbs.{version, one_or_two, algorithm, time, validity, key_algorithm, point_under, public_key, after_unique_identifiers, extensions, numbering, heading, names, values, contents, to_be_signed};
+ghost use Rattle.cert_view.specs.TbsParts.{layout_of};
+ghost use Rattle.cert_view.specs.Cert.{tbs_fields};
 
 use crate::cert_check::CertCheck;
 use crate::cert_fault::CertFault;
-use crate::extensions::{all_extensions, behind_optional};
+use crate::extensions::{after_optional, all_extensions};
 use crate::first_fault::both;
 use crate::keys::point_of;
 use crate::shapes::{fault_at, front, has_tag, is_empty, one, one_in, parts_in, tagged, two_in};
-use crate::signed_parts::{SignedParts, signed_parts};
+use crate::tbs_parts::{TbsParts, tbs_parts};
 use crate::times::{generalized_time, utc_time};
 use der_view::{Der, Parts};
 use key_device::Point;
@@ -31,7 +31,7 @@ const SECP256R1: [u8; 10] = [0x06, 0x08, 0x2a, 0x86, 0x48, 0xce, 0x3d, 0x03, 0x0
 
 /// What is read of the to-be-signed part.
 #[derive(Clone, Copy)]
-pub(crate) struct SignedFields<'a> {
+pub(crate) struct TbsFields<'a> {
     pub(crate) issuer: &'a [u8],
     pub(crate) subject: &'a [u8],
     pub(crate) not_before: i64,
@@ -66,7 +66,7 @@ fn one_or_two(parts: Parts<'_>) -> Option<Der<'_>>
 
 /// The first of the one or two parts of an element of that tag.
 fn one_or_two_in(tag: u8, element: Der<'_>) -> Result<Der<'_>, CertFault>
-    ensures { Gives part result (shaped one_or_two tag (part element.entry)) }
+    ensures { Gives part result (of_shape one_or_two tag (part element.entry)) }
 {
     match one_or_two(parts_in(tag, element)?) {
         Some(found) => Ok(found),
@@ -140,14 +140,14 @@ fn public_key(element: Der<'_>) -> Result<Point, CertFault>
     }
 }
 
-/// The parts behind the unique identifiers `[1]` and `[2]`, which are passed over.
-fn behind_unique(parts: Parts<'_>) -> Parts<'_>
-    ensures { left result ≡ behind_unique (left parts.entry) }
+/// The parts after the unique identifiers `[1]` and `[2]`, which are ignored.
+fn after_unique_identifiers(parts: Parts<'_>) -> Parts<'_>
+    ensures { left result ≡ after_unique_identifiers (left parts.entry) }
 {
-    behind_optional(0x82, behind_optional(0x81, parts))
+    after_optional(0x82, after_optional(0x81, parts))
 }
 
-/// What the extensions say of the purposes: nothing behind the key, or `[3]` with them.
+/// What the extensions say of the purposes: nothing after the key, or `[3]` with them.
 fn extensions(element: Der<'_>, parts: Parts<'_>) -> Result<Option<bool>, CertFault>
     ensures { result ≡ extensions (part element.entry) (left parts.entry) }
 {
@@ -160,39 +160,26 @@ fn extensions(element: Der<'_>, parts: Parts<'_>) -> Result<Option<bool>, CertFa
     }
 }
 
-/// The version, without which a certificate is of version 1.
-fn stated_version(element: Der<'_>, stated: Option<Der<'_>>) -> Result<(), CertFault>
-    ensures { result ≡ stated_version (part element.entry) (option_map part stated.entry) }
-{
-    match stated {
-        Some(stated) => version(stated),
-        None => Err(fault_at(CertCheck::VersionNot3, element)),
-    }
-}
-
 /// The version and the serial number.
-fn numbering(element: Der<'_>, parts: SignedParts<'_>) -> Result<(), CertFault>
-    ensures { result ≡ numbering (part element.entry) (laid_out parts.entry) }
+fn numbering(parts: TbsParts<'_>) -> Result<(), CertFault>
+    ensures { result ≡ numbering (layout_of parts.entry) }
 {
-    match both(
-        stated_version(element, parts.version),
-        tagged(0x02, parts.serial),
-    ) {
+    match both(version(parts.version), tagged(0x02, parts.serial)) {
         Ok(_) => Ok(()),
         Err(fault) => Err(fault),
     }
 }
 
 /// The version, the serial number and the algorithm.
-fn heading(element: Der<'_>, parts: SignedParts<'_>) -> Result<((), ()), CertFault>
-    ensures { result ≡ heading (part element.entry) (laid_out parts.entry) }
+fn heading(parts: TbsParts<'_>) -> Result<((), ()), CertFault>
+    ensures { result ≡ heading (layout_of parts.entry) }
 {
-    both(numbering(element, parts), algorithm(parts.algorithm))
+    both(numbering(parts), algorithm(parts.algorithm))
 }
 
 /// The issuer and the subject.
-fn names<'a>(parts: SignedParts<'a>) -> Result<(Der<'a>, Der<'a>), CertFault>
-    ensures { Gives (λ x. (part x.0, part x.1)) result (names (laid_out parts.entry)) }
+fn names<'a>(parts: TbsParts<'a>) -> Result<(Der<'a>, Der<'a>), CertFault>
+    ensures { Gives (λ x. (part x.0, part x.1)) result (names (layout_of parts.entry)) }
 {
     both(tagged(0x30, parts.issuer), tagged(0x30, parts.subject))
 }
@@ -200,11 +187,11 @@ fn names<'a>(parts: SignedParts<'a>) -> Result<(Der<'a>, Der<'a>), CertFault>
 /// The validity, the key and what the extensions say of its purposes.
 fn values(
     element: Der<'_>,
-    parts: SignedParts<'_>,
+    parts: TbsParts<'_>,
 ) -> Result<((i64, i64), (Point, Option<bool>)), CertFault>
-    ensures { result ≡ values (part element.entry) (laid_out parts.entry) }
+    ensures { result ≡ values (part element.entry) (layout_of parts.entry) }
 {
-    let purposes = extensions(element, behind_unique(parts.others));
+    let purposes = extensions(element, after_unique_identifiers(parts.others));
     both(
         validity(parts.validity),
         both(public_key(parts.key), purposes),
@@ -212,12 +199,12 @@ fn values(
 }
 
 /// What is read of the parts.
-fn contents<'a>(element: Der<'a>, parts: SignedParts<'a>) -> Result<SignedFields<'a>, CertFault>
-    ensures { Gives signed_fields result (contents (part element.entry) (laid_out parts.entry)) }
+fn contents<'a>(element: Der<'a>, parts: TbsParts<'a>) -> Result<TbsFields<'a>, CertFault>
+    ensures { Gives tbs_fields result (contents (part element.entry) (layout_of parts.entry)) }
 {
-    let others = both(heading(element, parts), values(element, parts));
+    let others = both(heading(parts), values(element, parts));
     match both(names(parts), others) {
-        Ok(((issuer, subject), (_, (times, (key, purposes))))) => Ok(SignedFields {
+        Ok(((issuer, subject), (_, (times, (key, purposes))))) => Ok(TbsFields {
             issuer: issuer.raw(),
             subject: subject.raw(),
             not_before: times.0,
@@ -230,10 +217,10 @@ fn contents<'a>(element: Der<'a>, parts: SignedParts<'a>) -> Result<SignedFields
 }
 
 /// What is read of the to-be-signed part.
-pub(crate) fn to_be_signed<'a>(element: Der<'a>) -> Result<SignedFields<'a>, CertFault>
-    ensures { Gives signed_fields result (to_be_signed (part element.entry)) }
+pub(crate) fn to_be_signed<'a>(element: Der<'a>) -> Result<TbsFields<'a>, CertFault>
+    ensures { Gives tbs_fields result (to_be_signed (part element.entry)) }
 {
-    match signed_parts(parts_in(0x30, element)?) {
+    match tbs_parts(parts_in(0x30, element)?) {
         Some(parts) => contents(element, parts),
         None => Err(fault_at(CertCheck::Shape, element)),
     }

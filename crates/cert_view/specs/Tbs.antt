@@ -10,10 +10,10 @@ use Rattle.key_device.specs.declared.point.Point.{Point}
 use Rattle.cert_view.specs.declared.cert_check.CertCheck.TheVariants.{Shape, VersionNot3, Algorithm, Time, KeyKind}
 use Rattle.cert_view.specs.declared.cert_fault.CertFault.{CertFault}
 use Rattle.cert_view.specs.Faults.{fault, both}
-use Rattle.cert_view.specs.Shapes.{has_tag, tagged, parts_in, front, is_empty, at_end, one, two, shaped}
+use Rattle.cert_view.specs.Shapes.{has_tag, tagged, parts_in, front, is_empty, at_end, one, two, of_shape}
 use Rattle.cert_view.specs.Times.{utc_time, generalized_time}
 use Rattle.cert_view.specs.Keys.{point_of}
-use Rattle.cert_view.specs.Extensions.{behind_optional, with_extensions}
+use Rattle.cert_view.specs.Extensions.{after_optional, with_extensions}
 
 -- ecdsa-with-SHA256, 1.2.840.10045.4.3.2 (RFC 5758, 3.2)
 abbrev pub ecdsa_with_sha256 : List ℕ
@@ -30,7 +30,7 @@ secp256r1 = 0x06 ∷ 0x08 ∷ 0x2a ∷ 0x86 ∷ 0x48 ∷ 0xce ∷ 0x3d ∷ 0x03 
 -- [0] with the INTEGER 2
 abbrev pub version : Part → Result (Unit {0}) CertFault
 version p = do
-  inner ← shaped one 0xa0 p
+  inner ← of_shape one 0xa0 p
   number ← tagged 0x02 inner
   if bytes_eq (body_of number.bytes) (2 ∷ []) then Ok tt else Err (fault VersionNot3 number.at)
 
@@ -42,7 +42,7 @@ one_or_two parts = front parts >>? λ a.
 -- ECDSA with SHA-256, whatever the parameters
 abbrev pub algorithm : Part → Result (Unit {0}) CertFault
 algorithm p = do
-  first ← shaped one_or_two 0x30 p
+  first ← of_shape one_or_two 0x30 p
   name ← tagged 0x06 first
   if bytes_eq (body_of name.bytes) ecdsa_with_sha256 then Ok tt else Err (fault Algorithm p.at)
 
@@ -55,13 +55,13 @@ time p =
 
 abbrev pub validity : Part → Result (ℤ × ℤ) CertFault
 validity p = do
-  times ← shaped two 0x30 p
+  times ← of_shape two 0x30 p
   both (time times.0) (time times.1)
 
 -- an identifier, and parameters of any kind
 abbrev pub key_algorithm : Part → Result (Part × Part) CertFault
 key_algorithm p = do
-  x ← shaped two 0x30 p
+  x ← of_shape two 0x30 p
   name ← tagged 0x06 x.0
   Ok (name, x.1)
 
@@ -73,22 +73,13 @@ point_under x bits =
 
 abbrev pub public_key : Part → Result Point CertFault
 public_key p = do
-  x ← shaped two 0x30 p
+  x ← of_shape two 0x30 p
   y ← both (key_algorithm x.0) (tagged 0x03 x.1)
   or_fault (fault KeyKind p.at) (point_under y.0 y.1)
 
--- The version may stand in front. A serial number in front says that it doesn't, and the certificate is then
--- of version 1 (4.1.2.1).
-abbrev pub with_version : List (Result Part DerFault) → Option (Part × List (Result Part DerFault)) → Option Part × List (Result Part DerFault)
-with_version parts None = (None, parts)
-with_version parts (Some first) = if has_tag 0x02 first.0 then (None, parts) else (Some first.0, first.1)
-
-abbrev pub version_in_front : List (Result Part DerFault) → Option Part × List (Result Part DerFault)
-version_in_front parts = with_version parts (front parts)
-
--- the version, the six parts that each certificate has, and those behind them
+-- the seven parts that each certificate has, and those after them
 pub record Layout : Type 0 where
-  pub version : Option Part
+  pub version : Part
   pub serial : Part
   pub algorithm : Part
   pub issuer : Part
@@ -97,9 +88,9 @@ pub record Layout : Type 0 where
   pub key : Part
   pub others : List (Result Part DerFault)
 
-abbrev pub laid_behind : Option Part × List (Result Part DerFault) → Option Layout
-laid_behind a =
-    front a.1 >>? λ b. front b.1 >>? λ c. front c.1 >>? λ d.
+abbrev pub layout : List (Result Part DerFault) → Option Layout
+layout parts =
+    front parts >>? λ a. front a.1 >>? λ b. front b.1 >>? λ c. front c.1 >>? λ d.
     front d.1 >>? λ e. front e.1 >>? λ f. front f.1 >>? λ g.
     Some (record {
       version = a.0;
@@ -112,24 +103,21 @@ laid_behind a =
       others = g.1;
     })
 
-abbrev pub layout : List (Result Part DerFault) → Option Layout
-layout parts = laid_behind (version_in_front parts)
+-- [1] and [2], the unique identifiers in their primitive form, are ignored
+abbrev pub after_unique_identifiers : List (Result Part DerFault) → List (Result Part DerFault)
+after_unique_identifiers parts = after_optional 0x82 (after_optional 0x81 parts)
 
--- [1] and [2], the unique identifiers, are passed over
-abbrev pub behind_unique : List (Result Part DerFault) → List (Result Part DerFault)
-behind_unique parts = behind_optional 0x82 (behind_optional 0x81 parts)
-
--- nothing behind them, or [3] with the extensions
+-- nothing after them, or [3] with the extensions
 abbrev pub extensions : Part → List (Result Part DerFault) → Result (Option Bool) CertFault
 extensions p parts =
     if is_empty parts then Ok None else (do
       last ← or_fault (fault Shape p.at) (one parts)
-      list ← shaped one 0xa3 last
+      list ← of_shape one 0xa3 last
       inner ← parts_in 0x30 list
       with_extensions (Ok None) inner)
 
 -- what is read of the to-be-signed part
-pub record Signed : Type 0 where
+pub record Tbs : Type 0 where
   pub issuer : List ℕ
   pub subject : List ℕ
   pub not_before : ℤ
@@ -137,28 +125,23 @@ pub record Signed : Type 0 where
   pub key : Point
   pub signs_documents : Bool
 
--- a certificate without a version is told at its to-be-signed part
-abbrev pub stated_version : Part → Option Part → Result (Unit {0}) CertFault
-stated_version p None = Err (fault VersionNot3 p.at)
-stated_version p (Some stated) = version stated
-
--- the version and the serial number, which is passed over
-abbrev pub numbering : Part → Layout → Result (Unit {0}) CertFault
-numbering p l = do
-  checked ← both (stated_version p l.version) (tagged 0x02 l.serial)
+-- the version and the serial number, which is ignored
+abbrev pub numbering : Layout → Result (Unit {0}) CertFault
+numbering l = do
+  checked ← both (version l.version) (tagged 0x02 l.serial)
   Ok tt
 
-abbrev pub heading : Part → Layout → Result (Unit {0} × Unit {0}) CertFault
-heading p l = both (numbering p l) (algorithm l.algorithm)
+abbrev pub heading : Layout → Result (Unit {0} × Unit {0}) CertFault
+heading l = both (numbering l) (algorithm l.algorithm)
 
 abbrev pub names : Layout → Result (Part × Part) CertFault
 names l = both (tagged 0x30 l.issuer) (tagged 0x30 l.subject)
 
 abbrev pub values : Part → Layout → Result ((ℤ × ℤ) × (Point × Option Bool)) CertFault
-values p l = both (validity l.validity) (both (public_key l.key) (extensions p (behind_unique l.others)))
+values p l = both (validity l.validity) (both (public_key l.key) (extensions p (after_unique_identifiers l.others)))
 
-abbrev pub said : (Part × Part) → (ℤ × ℤ) → Point → Option Bool → Signed
-said n times key purposes = record {
+abbrev pub tbs_of : (Part × Part) → (ℤ × ℤ) → Point → Option Bool → Tbs
+tbs_of n times key purposes = record {
   issuer = n.0.bytes;
   subject = n.1.bytes;
   not_before = times.0;
@@ -167,12 +150,12 @@ said n times key purposes = record {
   signs_documents = unwrap_or purposes false;
 }
 
-abbrev pub contents : Part → Layout → Result Signed CertFault
+abbrev pub contents : Part → Layout → Result Tbs CertFault
 contents p l = do
-  x ← both (names l) (both (heading p l) (values p l))
-  Ok (said x.0 x.1.1.0 x.1.1.1.0 x.1.1.1.1)
+  x ← both (names l) (both (heading l) (values p l))
+  Ok (tbs_of x.0 x.1.1.0 x.1.1.1.0 x.1.1.1.1)
 
-abbrev pub to_be_signed : Part → Result Signed CertFault
+abbrev pub to_be_signed : Part → Result Tbs CertFault
 to_be_signed p = do
   parts ← parts_in 0x30 p
   l ← or_fault (fault Shape p.at) (layout parts)
