@@ -85,9 +85,6 @@ front-of_none (x ∷ front) h = let e = h.joined in absurd cc
 front-more : {A : Type 0} (x : A) (front whole : List A) → IsFront front whole → IsFront (x ∷ front) (x ∷ whole)
 front-more x front whole h = record { rest = h.rest; joined = ap (λ (l : List _). x ∷ l) h.joined }
 
-front-all : {A : Type 0} (front whole : List A) → front ≡ whole → IsFront front whole
-front-all front whole e = record { rest = []; joined = sym e ∙ sym (append-nil front) }
-
 -- an outcome of these files and lines
 abbrev of_work : Status → List (List ℕ) → List (List ℕ × List ℕ) → List Place → Outcome
 of_work last lines files released = record { status = last; lines = lines; files = files; released = released }
@@ -344,6 +341,10 @@ held-before name found told (file ∷ files) (Failed ∷ answers) held = tt
 held-before name found None (file ∷ files) ((Found other) ∷ answers) held = (held.0, held-before name found None files answers held.1)
 held-before name found (Some told) (file ∷ files) ((Found other) ∷ answers) held = (held.0, held-before name found (Some told) files answers held.1)
 
+held-nothing : (told : Option CabinetTold) (files : List FileName) → AreHeld told files []
+held-nothing told [] = tt
+held-nothing told (file ∷ files) = tt
+
 none-read : (files : List FileName) → read_calls files [] ≡ []
 none-read [] = refl
 none-read (file ∷ files) = refl
@@ -384,10 +385,7 @@ read-refused file files work before now status is gives same =
       causes = work-causes status _ _ _ _ is (ap (λ (s : State CabinetTold). s.faults) gives.read) (ap (λ (s : State (List SinkCall)). s.faults) same);
       written = ap (λ (s : State CabinetTold). s.told) gives.read ∙ told_one (Read file.name gives.found) before.cabinet.told;
       printed = ap (λ (s : State (List SinkCall)). s.told) same ∙ puts_none before.sink.told;
-    }) where
-      held-nothing : (told : Option CabinetTold) (files : List FileName) → AreHeld told files []
-      held-nothing told [] = tt
-      held-nothing told (file ∷ files) = tt
+    })
 
 -- memory was wanting once the file was read
 read-wanted : (file : FileName) (files : List FileName) (work : List Content → Outcome) (before now : World) →
@@ -403,10 +401,7 @@ read-wanted file files work before now read same =
       causes = (ap (λ (s : State CabinetTold). s.faults) read.read, ap (λ (s : State (List SinkCall)). s.faults) same);
       written = ap (λ (s : State CabinetTold). s.told) read.read ∙ told_one (Read file.name read.found) before.cabinet.told;
       printed = ap (λ (s : State (List SinkCall)). s.told) same ∙ puts_none before.sink.told;
-    }) where
-      held-nothing : (told : Option CabinetTold) (files : List FileName) → AreHeld told files []
-      held-nothing told [] = tt
-      held-nothing told (file ∷ files) = tt
+    })
 
 -- memory was wanting before the file was read
 read-unread : (file : FileName) (files : List FileName) (work : List Content → Outcome) (before now : World) →
