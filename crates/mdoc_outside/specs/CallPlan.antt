@@ -1,5 +1,5 @@
 -- What a plan of failing calls keeps.
-use Rattle.std.specs.Prelude.{◌≡◌, ◌+◌, ◌-◌, ◌^◌, ◌↔◌, ℕ, List, min, Contains, Result, IsErrOf, OnOk}
+use Rattle.std.specs.Prelude.{◌≡◌, ◌+◌, ◌-◌, ◌^◌, ℕ, List, min, Contains, Result, IsErrOf, OnOk}
 use Rattle.mdoc_outside.specs.declared.call_plan.CallPlan.{CallPlan}
 
 -- the numbers of the calls that fail
@@ -17,10 +17,6 @@ fault_count plan = plan.faults
 -- the number of a call and that of the next one, which stays at its last value
 abbrev pub IsNextCall : ℕ → ℕ → Type 0
 IsNextCall call next = next ≡ min (call + 1) (2 ^ 64 - 1)
-
--- the call of that number fails exactly where the plan says so
-abbrev pub FailsAsPlanned : {T E : Type 0} → E → List ℕ → ℕ → Result T E → Type 0
-FailsAsPlanned failed fails call result = IsErrOf result failed ↔ Contains fails call
 
 -- A call goes as planned: it fails where the plan says so and nowhere else, and is counted. Where memory was wanting
 -- it isn't.

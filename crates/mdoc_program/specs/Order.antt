@@ -1,44 +1,94 @@
--- The words of the command `draft`: the command, then pairs of a name and a value, in any order.
-use Rattle.std.specs.Prelude.{ℕ, ◌==◌, List, [], ◌∷◌, length, Bool, true, not, ◌&&◌, Option, Some, None, codes, if◌then◌else◌}
+-- The words of a command: the command, then pairs of a name and a value, in any order. One table says which pairs a
+-- command has.
+use Rattle.std.specs.Prelude.{ℕ, ◌==◌, List, [], ◌∷◌, Bool, true, false, not, ◌&&◌, Option, Some, None, codes, if◌then◌else◌}
+use Rattle.std.specs.List.{list_all, list_any}
 use Rattle.std.specs.Str.{bytes_eq}
-use Rattle.mdoc_outside.specs.OptionSteps.{◌>>=◌}
+use Rattle.mdoc_outside.specs.OptionSteps.{◌>>=◌, where_true}
+use Rattle.mdoc_program.specs.Number.{is_number}
+use Rattle.mdoc_program.specs.declared.command.Command.{Command}
+use Rattle.mdoc_program.specs.declared.command.Command.TheVariants.{Draft}
+use Rattle.mdoc_program.specs.declared.pair_kind.PairKind.{PairKind}
+use Rattle.mdoc_program.specs.declared.pair_kind.PairKind.TheVariants.{File, Number, Text}
+use Rattle.mdoc_program.specs.declared.role.Role.{Role}
+use Rattle.mdoc_program.specs.declared.role.Role.TheVariants as roles
 
--- The names of the three files that the command reads.
-pub record DraftNames : Type 0 where
-  pub store : List ℕ
-  pub wishes : List ℕ
-  pub rules : List ℕ
+-- ---- the table
 
--- the values that stand behind a name, in words taken two by two
+-- A pair of a row: the name, what the value is, and whether it has to be there.
+pub record Pair : Type 0 where
+  pub name : List ℕ
+  pub kind : PairKind
+  pub needed : Bool
+
+abbrev pub needed_file : List ℕ → Role → Pair
+needed_file name role = record { name = name; kind = File role; needed = true }
+
+abbrev pub row : Command → List Pair
+row Draft =
+    needed_file (codes "--store") roles.Store
+    ∷ (needed_file (codes "--wishes") roles.Wishes
+    ∷ (needed_file (codes "--rules") roles.Rules ∷ []))
+
+abbrev pub command_of : List ℕ → Option Command
+command_of word = if bytes_eq word (codes "draft") then Some Draft else None
+
+-- ---- the form
+
+-- whether a word may be a value: it doesn't begin with `-` (2d)
+abbrev pub is_value : List ℕ → Bool
+is_value [] = true
+is_value (first ∷ rest) = not (first == 45)
+
+abbrev pub is_of_kind : PairKind → List ℕ → Bool
+is_of_kind (File role) word = is_value word
+is_of_kind (Number least most) word = is_number least most word
+is_of_kind Text word = is_value word
+
+-- the values that stand with a name, in words taken two by two
 abbrev pub values_of : List ℕ → List (List ℕ) → List (List ℕ)
 values_of name [] = []
 values_of name (key ∷ []) = []
 values_of name (key ∷ (value ∷ rest)) = if bytes_eq key name then value ∷ values_of name rest else values_of name rest
 
--- whether a word may be a value: it doesn't begin with `-` (45)
-abbrev pub is_value : List ℕ → Bool
-is_value [] = true
-is_value (first ∷ rest) = not (first == 45)
+-- whether these are the values of a pair: one of its kind, or none where it needn't be there
+abbrev pub fits : Pair → List (List ℕ) → Bool
+fits pair [] = not pair.needed
+fits pair (value ∷ []) = is_of_kind pair.kind value
+fits pair (value ∷ (other ∷ values)) = false
 
--- the one of a list of one, where it may be a value
-abbrev pub only_value : List (List ℕ) → Option (List ℕ)
-only_value [] = None
-only_value (value ∷ []) = if is_value value then Some value else None
-only_value (value ∷ (other ∷ values)) = None
+abbrev pub all_fit : List Pair → List (List ℕ) → Bool
+all_fit pairs words = list_all (λ (pair : Pair). fits pair (values_of pair.name words)) pairs
 
--- the value of a name that stands there once
+-- whether a word is the name of one of the pairs
+abbrev pub has_name : List Pair → List ℕ → Bool
+has_name pairs name = list_any (λ (pair : Pair). bytes_eq pair.name name) pairs
+
+-- whether words are names of pairs, each with a value
+abbrev pub are_pairs : List Pair → List (List ℕ) → Bool
+are_pairs pairs [] = true
+are_pairs pairs (name ∷ []) = false
+are_pairs pairs (name ∷ (value ∷ rest)) = has_name pairs name && are_pairs pairs rest
+
+-- whether words are in the form of a row
+abbrev pub is_in_form : List Pair → List (List ℕ) → Bool
+is_in_form pairs words = are_pairs pairs words && all_fit pairs words
+
+-- ---- orders
+
+-- A command, and the words of its pairs.
+pub record Order : Type 0 where
+  pub command : Command
+  pub words : List (List ℕ)
+
+-- The order that words give, where they are in the form of a command's row.
+abbrev pub order : List (List ℕ) → Option Order
+order [] = None
+order (word ∷ words) = command_of word >>= λ command. where_true (is_in_form (row command) words) (record { command = command; words = words })
+
+-- the value that stands with a name
+abbrev pub first_value : List (List ℕ) → Option (List ℕ)
+first_value [] = None
+first_value (value ∷ values) = Some value
+
 abbrev pub value_of : List ℕ → List (List ℕ) → Option (List ℕ)
-value_of name words = only_value (values_of name words)
-
--- each of the three names once, in three pairs
-abbrev pub draft_names : List (List ℕ) → Option DraftNames
-draft_names words = do
-  store ← value_of (codes "--store") words
-  wishes ← value_of (codes "--wishes") words
-  rules ← value_of (codes "--rules") words
-  Some (record { store = store; wishes = wishes; rules = rules })
-
--- The files that the words name: `draft`, then `--store`, `--wishes` and `--rules`, each once with its value, and nothing else.
-abbrev pub draft_order : List (List ℕ) → Option DraftNames
-draft_order [] = None
-draft_order (command ∷ words) = if bytes_eq command (codes "draft") && length words == 6 then draft_names words else None
+value_of name words = first_value (values_of name words)

@@ -1,98 +1,133 @@
--- What a run answers and leaves, status by status.
-use Rattle.std.specs.Prelude.{◌≡◌, ℕ, List, [], ◌++◌, Option, Some, None, Result, Ok, Err, IfOk}
+-- What a run leaves, by what it saw of the outside: one record, all of whose fields share one list of answers.
+use Rattle.std.specs.Prelude.{◌≡◌, ℕ, List, [], ◌∷◌, ◌++◌, map, Option, option_map, Result, Ok, Err, ◌⊎◌}
+use Rattle.mdoc_outside.specs.Cabinet.{CabinetTold, IsFound}
 use Rattle.mdoc_outside.specs.Faults.{Rose}
-use Rattle.doc_store.specs.Agreement.{FilesAgree}
-use Rattle.mdoc_program.specs.Draft.{Draft, printed, released_in, core_of}
-use Rattle.mdoc_program.specs.Printed.{core_line}
+use Rattle.mdoc_outside.specs.declared.cabinet_call.CabinetCall.{CabinetCall}
+use Rattle.mdoc_outside.specs.declared.cabinet_call.CabinetCall.TheVariants.{Read, ReadFailed, Write, WriteFailed}
+use Rattle.mdoc_outside.specs.declared.sink_call.SinkCall.{SinkCall}
+use Rattle.mdoc_outside.specs.declared.sink_call.SinkCall.TheVariants.{Put, PutFailed}
+use Rattle.mdoc_program.specs.Commands.{work_of}
+use Rattle.mdoc_program.specs.Content.{Content, content_of}
+use Rattle.mdoc_program.specs.Order.{Order}
+use Rattle.mdoc_program.specs.Outcome.{Answer, Found, Failed, FileName, Outcome, after_reads, files_named}
+use Rattle.mdoc_program.specs.World.{World, told_with}
 use Rattle.mdoc_program.specs.declared.status.Status.{Status}
-use Rattle.mdoc_program.specs.declared.status.Status.TheVariants.{Done, Cabinet, Sink, Memory}
+use Rattle.mdoc_program.specs.declared.status.Status.TheVariants as statuses
 
--- the answer is this status, or want of memory came before it
-abbrev pub OrMemory : Status → Status → Type 0
-OrMemory Memory status = Unit {0}
-OrMemory answer status = answer ≡ status
-
--- the answer is this status, or want of memory or a fault of the outside came before it
-abbrev pub OrOutside : Status → Status → Type 0
-OrOutside Memory status = Unit {0}
-OrOutside Cabinet status = Unit {0}
-OrOutside Sink status = Unit {0}
-OrOutside answer status = answer ≡ status
-
--- A status is answered exactly where a fact holds, unless another is answered that may come before it.
-pub record Exactly (before : Status → Status → Type 0) (answer status : Status) (fact : Type 0) : Type 0 where
-  pub only : answer ≡ status → fact
-  pub there : fact → before answer status
-
--- `Cabinet` comes only where the cabinet's count of faults rose, and with each other status it is as it was.
-abbrev pub CabinetFailed : Status → ℕ → ℕ → Type 0
-CabinetFailed Cabinet before now = Rose before now
-CabinetFailed answer before now = now ≡ before
-
--- `Sink` comes only where the sink's count of faults rose, and with each other status it is as it was.
-abbrev pub SinkFailed : Status → ℕ → ℕ → Type 0
-SinkFailed Sink before now = Rose before now
-SinkFailed answer before now = now ≡ before
-
--- all is done, or memory was wanting
-abbrev pub DoneOrMemory : Status → Type 0
-DoneOrMemory Done = Unit {0}
-DoneOrMemory Memory = Unit {0}
-DoneOrMemory answer = ⊥
-
--- Where the words are in form, and the files are there, in their grammars and within the limits, the run does its
--- work, unless a count of faults rose or memory was wanting.
-abbrev pub Complete : Result Draft Status → ℕ → ℕ → ℕ → ℕ → Status → Type 0
-Complete (Err status) before now put_before put_now answer = Unit {0}
-Complete (Ok drafted) before now put_before put_now answer = (Rose before now → ⊥) → (Rose put_before put_now → ⊥) → DoneOrMemory answer
-
--- some bytes from the front
-pub record IsFront (front whole : List ℕ) : Type 0 where
-  pub rest : List ℕ
+-- some of a list, from its front
+pub record IsFront {A : Type 0} (front whole : List A) : Type 0 where
+  pub rest : List A
   pub joined : whole ≡ front ++ rest
 
--- What a run adds to what was printed: all of the line with `Done`, a part from its front with `Sink` or
--- `Memory`, and nothing with another status. With `Done` and `Sink` there is a line.
-abbrev pub Adds : Status → Result Draft Status → List ℕ → Type 0
-Adds Done (Ok drafted) added = added ≡ printed drafted
-Adds Done (Err status) added = ⊥
-Adds Sink (Ok drafted) added = IsFront added (printed drafted)
-Adds Sink (Err status) added = ⊥
-Adds Memory (Ok drafted) added = IsFront added (printed drafted)
-Adds answer drafted added = added ≡ []
+-- ---- where a run stopped
 
--- what a sink that tells has gained
-pub record Gains (old : List ℕ) (now : Option (List ℕ)) (fact : List ℕ → Type 0) : Type 0 where
-  pub added : List ℕ
-  pub now_holds : now ≡ Some (old ++ added)
-  pub fits : fact added
+pub data Stop : Type 0 where
+  -- all was done that the outcome says
+  End : Stop
+  -- these files were written, and then the write of one failed
+  FileFailed : List (List ℕ × List ℕ) → List ℕ × List ℕ → Stop
+  -- all files were written and these lines printed, and then the put of one failed
+  LineFailed : List (List ℕ) → List ℕ → Stop
+  -- memory was wanting after these files were written and these lines printed
+  Wanting : List (List ℕ × List ℕ) → List (List ℕ) → Stop
 
--- A sink that tells has gained bytes of which the fact holds; one that doesn't goes on so.
-abbrev pub Prints : Option (List ℕ) → Option (List ℕ) → (List ℕ → Type 0) → Type 0
-Prints None now fact = now ≡ None
-Prints (Some old) now fact = Gains old now fact
+-- the status that is answered
+abbrev pub status_at : Stop → Outcome → Status
+status_at End outcome = outcome.status
+status_at (FileFailed files file) outcome = statuses.Cabinet
+status_at (LineFailed lines line) outcome = statuses.Sink
+status_at (Wanting files lines) outcome = statuses.Memory
 
--- Nothing was printed, unless the status is one with which something may have been.
-abbrev pub Silent : Status → Option (List ℕ) → Option (List ℕ) → Type 0
-Silent Done old now = Unit {0}
-Silent Sink old now = Unit {0}
-Silent Memory old now = Unit {0}
-Silent answer old now = now ≡ old
+-- A stop is at a place in the order of the outcome: files first, then lines.
+abbrev pub IsPlace : Stop → Outcome → Type 0
+IsPlace End outcome = Unit {0}
+IsPlace (FileFailed files file) outcome = IsFront (files ++ file ∷ []) outcome.files
+IsPlace (LineFailed lines line) outcome = IsFront (lines ++ line ∷ []) outcome.lines
+IsPlace (Wanting files lines) outcome = IsFront files outcome.files × IsFront lines outcome.lines × ((lines ≡ []) ⊎ (files ≡ outcome.files))
 
--- A sink that tells has gained exactly this.
-abbrev pub Gained : Option (List ℕ) → Option (List ℕ) → List ℕ → Type 0
-Gained None now added = now ≡ None
-Gained (Some old) now added = now ≡ Some (old ++ added)
+-- ---- the calls of a run
 
--- What printing one line leaves: all of it with `Done`, and nothing with `Sink`, where the sink failed, or `Memory`.
-abbrev pub PrintsLine : List ℕ → Option (List ℕ) → Option (List ℕ) → ℕ → ℕ → Status → Type 0
-PrintsLine text old now before after Done = Gained old now text × (after ≡ before)
-PrintsLine text old now before after Sink = (now ≡ old) × Rose before after
-PrintsLine text old now before after Memory = (now ≡ old) × (after ≡ before)
-PrintsLine text old now before after status = ⊥
+-- The reads: those up to the first that ends the run.
+abbrev pub unless_refused : Result Content Status → List CabinetCall → List CabinetCall
+unless_refused (Ok content) calls = calls
+unless_refused (Err status) calls = []
 
--- What was printed is the core of each store file that agrees with this run's up to the released items.
-abbrev pub PrintsForAgreeing : Result Draft Status → Option (List ℕ) → Option (List ℕ) → Type 0
-PrintsForAgreeing run old now =
-    IfOk run (λ drafted. (other : List ℕ) (agree : FilesAgree drafted.file.bytes other (released_in drafted))
-    → Gained old now (core_line (core_of agree.second drafted)))
+abbrev pub read_calls : List FileName → List Answer → List CabinetCall
+read_calls [] answers = []
+read_calls (file ∷ files) [] = []
+read_calls (file ∷ files) (Failed ∷ answers) = ReadFailed file.name ∷ []
+read_calls (file ∷ files) ((Found found) ∷ answers) = Read file.name found ∷ unless_refused (content_of file.role found) (read_calls files answers)
+
+-- The writes: the files of the outcome in order, with a fault a part from the front and the one that failed.
+abbrev pub write : List ℕ × List ℕ → CabinetCall
+write file = Write file.0 file.1
+
+abbrev pub write_calls : Stop → Outcome → List CabinetCall
+write_calls End outcome = map write outcome.files
+write_calls (FileFailed files file) outcome = map write files ++ WriteFailed file.0 file.1 ∷ []
+write_calls (LineFailed lines line) outcome = map write outcome.files
+write_calls (Wanting files lines) outcome = map write files
+
+-- The puts: one for each line of the outcome, in order, with a fault those before it and the one that failed.
+abbrev pub put_calls : Stop → Outcome → List SinkCall
+put_calls End outcome = map Put outcome.lines
+put_calls (FileFailed files file) outcome = []
+put_calls (LineFailed lines line) outcome = map Put lines ++ PutFailed line ∷ []
+put_calls (Wanting files lines) outcome = map Put lines
+
+-- ---- the clauses
+
+-- What a cabinet that tells answered is what it holds.
+abbrev pub AreHeld : Option CabinetTold → List FileName → List Answer → Type 0
+AreHeld told [] answers = Unit {0}
+AreHeld told (file ∷ files) [] = Unit {0}
+AreHeld told (file ∷ files) (Failed ∷ answers) = Unit {0}
+AreHeld told (file ∷ files) ((Found found) ∷ answers) = IsFound told file.name found × AreHeld told files answers
+
+-- At most one count of faults rose, and which status then comes; with every other status none did. `Usage` isn't
+-- answered to words that are in form.
+abbrev pub Causes : Status → ℕ → ℕ → ℕ → ℕ → Type 0
+Causes statuses.Usage cabinet cabinet_now sink sink_now = ⊥
+Causes statuses.Cabinet cabinet cabinet_now sink sink_now = Rose cabinet cabinet_now × (sink_now ≡ sink)
+Causes statuses.Sink cabinet cabinet_now sink sink_now = Rose sink sink_now × (cabinet_now ≡ cabinet)
+Causes status cabinet cabinet_now sink sink_now = (cabinet_now ≡ cabinet) × (sink_now ≡ sink)
+
+-- A run over these files and then this work: there are answers of the cabinet, by which it is the outcome.
+pub record IsRun (files : List FileName) (work : List Content → Outcome) (before now : World) (status : Status) : Type 0 where
+  -- what the cabinet answered, and where the run stopped
+  pub answers : List Answer
+  pub stop : Stop
+  -- the answers are what is held, where that is told
+  pub held : AreHeld before.cabinet.told files answers
+  -- the status is the outcome's, or `Memory`, or that of the one object that failed, at the place where it did
+  pub answer : status ≡ status_at stop (after_reads files answers work)
+  pub place : IsPlace stop (after_reads files answers work)
+  -- at most one count rose
+  pub causes : Causes status before.cabinet.faults now.cabinet.faults before.sink.faults now.sink.faults
+  -- the files are read in order up to the first that ends the run, then the outcome's files are written; nothing else is read or written
+  pub written : now.cabinet.told ≡ option_map (told_with (read_calls files answers ++ write_calls stop (after_reads files answers work))) before.cabinet.told
+  -- each line of the outcome is one put, in order
+  pub printed : now.sink.told ≡ option_map (λ calls. calls ++ put_calls stop (after_reads files answers work)) before.sink.told
+
+-- each file is there, is not too long, and is in its form
+abbrev pub IsOpened : FileName → Answer → Type 0
+IsOpened file Failed = ⊥
+IsOpened file (Found found) = (content : Content) × (content_of file.role found ≡ Ok content)
+
+abbrev pub AreOpened : List FileName → List Answer → Type 0
+AreOpened [] answers = Unit {0}
+AreOpened (file ∷ files) [] = ⊥
+AreOpened (file ∷ files) (answer ∷ answers) = IsOpened file answer × AreOpened files answers
+
+-- the work was done, or memory was wanting
+abbrev pub IsComplete : Status → Type 0
+IsComplete statuses.Done = Unit {0}
+IsComplete statuses.Memory = Unit {0}
+IsComplete status = ⊥
+
+-- What a run does with an order.
+pub record Runs (order : Order) (before now : World) (status : Status) : Type 0 where
+  pub run : IsRun (files_named order) (work_of order.command) before now status
+  -- Where all files are opened and no count rose, the work is done, or memory was wanting.
+  pub complete : AreOpened (files_named order) run.answers → (Rose before.cabinet.faults now.cabinet.faults → ⊥) →
+      (Rose before.sink.faults now.sink.faults → ⊥) → IsComplete status

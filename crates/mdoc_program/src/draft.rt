@@ -1,163 +1,113 @@
-// The command `draft`: its files, read and judged one by one, and the line that it prints.
-ghost use Rattle.std.specs.Prelude.{◌≡◌, IfOk};
-ghost use Rattle.mdoc_outside.specs.Files.{file_in};
-ghost use Rattle.mdoc_program.specs.Draft.{bytes_of, store_file, store_in, fault_status, asked_in, rules_in, draft_of, core_of, printed};
-ghost use Rattle.mdoc_program.specs.DraftOrder.{names};
-ghost use Rattle.mdoc_program.specs.Drafted.{draft_seen, IsStore, JudgesStore};
-ghost use Rattle.mdoc_program.specs.FileSteps.{Steps};
+// The command `draft`: prints the core of what the holder's rules release.
+ghost use Rattle.std.specs.Prelude.{◌≡◌, true, IfOk};
+ghost use Rattle.mdoc_program.specs.Draft.{draft_files, draft_line, draft_outcome};
+ghost use Rattle.mdoc_program.specs.Order.{is_in_form, row};
+ghost use Rattle.mdoc_program.specs.Outcome.{files_named};
 ghost use Rattle.mdoc_program.specs.Request.{IsRequest};
+ghost use Rattle.mdoc_program.specs.Steps.{Does};
+ghost use Rattle.mdoc_program.specs.StoreBytes.{documents_of};
+ghost use Rattle.mdoc_program.specs.World.{world};
+ghost use Rattle.mdoc_program.specs.declared.command.Command.TheVariants.{Draft};
 
 use crate::answering::answer_all;
-use crate::draft_order::DraftOrder;
-use crate::drafted::Drafted;
+use crate::form::read_file;
+use crate::order::value_of;
+use crate::print_lines::print_lines;
 use crate::response_writer::write_core;
-use crate::{FileFault, FormCheck, RequestDraft, Role, RuleFault, Rules, Status, read_wishes};
-use doc_store::{Fault, Store, StoreCheck, StoreFault};
-use mdoc_outside::{Cabinet, CabinetFault, LimitName, Memory, Octets};
+use crate::store_bytes::StoreBytes;
+use crate::{RequestDraft, Rules, Status};
+use mdoc_outside::{Cabinet, Memory, Octets, Sink, Word};
 use std::alloc::Global;
 
-// The most bytes of a file.
-const MOST_BYTES: usize = 16_777_216;
-
-// The bytes of a file that is there and isn't too long.
-fn bytes_of<C: Cabinet>(cabinet: &mut C, name: &str, role: Role) -> Result<Octets, Status>
-    ensures read { Steps (λ bytes. bytes) (λ files. bytes_of role (file_in files name.now)) (C.files cabinet.old)
-        (C.faults cabinet.old) (C.faults cabinet.new) result }
-    ensures same { C.files cabinet.new ≡ C.files cabinet.old }
-{
-    match cabinet.read(name) {
-        Ok(Some(bytes)) => {
-            let length = bytes.as_slice().len();
-            if length <= MOST_BYTES {
-                Ok(bytes)
-            } else {
-                Err(Status::Limit(LimitName::FileBytes, length as u64))
-            }
-        }
-        Ok(None) => Err(Status::Missing(role)),
-        Err(CabinetFault::Failed) => Err(Status::Cabinet),
-        Err(CabinetFault::Memory) => Err(Status::Memory),
-    }
+// The names of the files that `draft` reads.
+#[derive(Clone, Copy)]
+struct DraftFiles<'a> {
+    store: &'a str,
+    wishes: &'a str,
+    rules: &'a str,
 }
 
-// Whether bytes spell a store, or their first fault.
-fn check_store(alloc: Global, bytes: &[u8]) -> Result<(), StoreFault>
-    ensures { JudgesStore result bytes.now }
+// The files that the words name.
+#[tactic(auto, using(crate::proofs::OrderLemmas::draft_files_named))]
+fn files_of<'a>(words: &'a [Word]) -> DraftFiles<'a>
+    requires { is_in_form (row Draft) words.now ≡ true }
+    ensures { files_named (record { command = Draft; words = words.now })
+        ≡ draft_files result.store.now result.wishes.now result.rules.now }
 {
-    match Store::read(alloc, bytes) {
-        Ok(_) => Ok(()),
-        Err(fault) => Err(fault),
-    }
-}
-
-// The status of a store file by its first fault.
-fn status_of(fault: Fault) -> Status
-    ensures { result ≡ fault_status fault }
-{
-    match fault.check {
-        StoreCheck::Limit(name, number) => Status::Limit(name, number),
-        check => Status::Form(Role::Store, FormCheck::Store(check), fault.at as u64),
-    }
-}
-
-// The bytes of the store.
-#[tactic(auto, using(crate::proofs::StoreStatus::fault_told))]
-fn read_store<C: Cabinet>(alloc: Global, cabinet: &mut C, name: &str) -> Result<Octets, Status>
-    ensures read { Steps store_file (λ files. store_in files name.now) (C.files cabinet.old)
-        (C.faults cabinet.old) (C.faults cabinet.new) result }
-    ensures store { IfOk result (λ bytes. IsStore bytes) }
-    ensures same { C.files cabinet.new ≡ C.files cabinet.old }
-{
-    let bytes = bytes_of(cabinet, name, Role::Store)?;
-    match check_store(alloc, bytes.as_slice()) {
-        Ok(()) => Ok(bytes),
-        Err(StoreFault::Form(fault)) => Err(status_of(fault)),
-        Err(StoreFault::Memory) => Err(Status::Memory),
-    }
-}
-
-// The documents and elements that the wishes file asks for.
-fn read_asked<C: Cabinet>(
-    alloc: Global,
-    cabinet: &mut C,
-    name: &str,
-) -> Result<RequestDraft, Status>
-    ensures read { Steps (λ request. request.documents) (λ files. asked_in files name.now) (C.files cabinet.old)
-        (C.faults cabinet.old) (C.faults cabinet.new) result }
-    ensures request { IfOk result (λ request. IsRequest request.documents) }
-    ensures same { C.files cabinet.new ≡ C.files cabinet.old }
-{
-    let text = bytes_of(cabinet, name, Role::Wishes)?;
-    match read_wishes(alloc, text.as_slice()) {
-        Ok(request) => Ok(request),
-        Err(FileFault::Line(number)) => { Err(Status::Form(Role::Wishes, FormCheck::Line, number)) }
-        Err(FileFault::Limit(name, number)) => Err(Status::Limit(name, number)),
-        Err(FileFault::Memory) => Err(Status::Memory),
-    }
-}
-
-// The holder's rules.
-fn read_rules<C: Cabinet>(alloc: Global, cabinet: &mut C, name: &str) -> Result<Rules, Status>
-    ensures read { Steps (λ rules. rules) (λ files. rules_in files name.now) (C.files cabinet.old)
-        (C.faults cabinet.old) (C.faults cabinet.new) result }
-    ensures same { C.files cabinet.new ≡ C.files cabinet.old }
-{
-    let text = bytes_of(cabinet, name, Role::Rules)?;
-    match Rules::read(alloc, text.as_slice()) {
-        Ok(rules) => Ok(rules),
-        Err(RuleFault::Line(number)) => Err(Status::Form(Role::Rules, FormCheck::Line, number)),
-        Err(RuleFault::Memory) => Err(Status::Memory),
-    }
-}
-
-// The files of `draft`, in their order.
-pub(crate) fn read_files<C: Cabinet>(
-    alloc: Global,
-    order: &DraftOrder<'_>,
-    cabinet: &mut C,
-) -> Result<Drafted, Status>
-    ensures read { Steps draft_seen (λ files. draft_of files (names order.now)) (C.files cabinet.old)
-        (C.faults cabinet.old) (C.faults cabinet.new) result }
-    ensures store { IfOk result (λ drafted. IsStore drafted.store) }
-    ensures request { IfOk result (λ drafted. IsRequest drafted.asked.documents) }
-    ensures same { C.files cabinet.new ≡ C.files cabinet.old }
-{
-    let store = read_store(alloc, cabinet, order.store)?;
-    let asked = read_asked(alloc, cabinet, order.wishes)?;
-    let rules = read_rules(alloc, cabinet, order.rules)?;
-    Ok(Drafted {
-        store,
-        asked,
-        rules,
-    })
-}
-
-// The core of what the holder's rules release to an unknown reader.
-fn core_of(alloc: Global, drafted: &Drafted) -> Result<Octets, Memory>
-    requires store { IsStore drafted.now.store }
-    requires request { IsRequest drafted.now.asked.documents }
-    ensures { IfOk result (λ core. core ≡ core_of (draft_seen drafted.now).file.documents (draft_seen drafted.now)) }
-{
-    let store = match Store::read(alloc, drafted.store.as_slice()) {
-        Ok(store) => store,
-        Err(StoreFault::Form(_)) => unreachable!(),
-        Err(StoreFault::Memory) => return Err(Memory),
+    let Some(store) = value_of("--store", words) else {
+        unreachable!();
     };
-    let asked = drafted.asked.documents.as_slice();
-    let documents = answer_all(alloc, &store, asked, &drafted.rules)?;
-    write_core(alloc, &documents)
+    let Some(wishes) = value_of("--wishes", words) else {
+        unreachable!();
+    };
+    let Some(rules) = value_of("--rules", words) else {
+        unreachable!();
+    };
+    DraftFiles {
+        store,
+        wishes,
+        rules,
+    }
 }
 
-// The line that `draft` prints.
-pub(crate) fn line_of(alloc: Global, drafted: &Drafted) -> Result<Octets, Memory>
-    requires store { IsStore drafted.now.store }
-    requires request { IsRequest drafted.now.asked.documents }
-    ensures { IfOk result (λ line. line ≡ printed (draft_seen drafted.now)) }
+// The line that `draft` prints: the core of what the rules release to an unknown reader.
+fn line_of(
+    alloc: Global,
+    file: &StoreBytes,
+    request: &RequestDraft,
+    rules: &Rules,
+) -> Result<Octets, Memory>
+    requires { IsRequest request.now.documents }
+    ensures { IfOk result (λ line. line ≡ draft_line (documents_of file.now) request.now.documents rules.now) }
 {
-    let core = core_of(alloc, drafted)?;
+    let store = file.store(alloc)?;
+    let documents = answer_all(alloc, &store, request.documents.as_slice(), rules)?;
+    let core = write_core(alloc, &documents)?;
     let digits = hex::encode(alloc, core.as_slice())?;
     let mut line = b"core ".to_vec(alloc)?;
     line.extend_from_slice(digits.as_bytes())?;
     line.push(b'\n')?;
     Ok(Octets::from_vec(line))
+}
+
+// Opens the files, one by one, and prints the line.
+fn draft_files<C: Cabinet, O: Sink>(
+    alloc: Global,
+    files: DraftFiles<'_>,
+    cabinet: &mut C,
+    out: &mut O,
+) -> Status
+    ensures { Does (draft_files files.entry.store.now files.entry.wishes.now files.entry.rules.now) draft_outcome
+        (world (C.state cabinet.old) (O.state out.old)) (world (C.state cabinet.new) (O.state out.new)) result }
+{
+    let store: StoreBytes = match read_file(alloc, files.store, cabinet) {
+        Ok(store) => store,
+        Err(status) => return status,
+    };
+    let request: RequestDraft = match read_file(alloc, files.wishes, cabinet) {
+        Ok(request) => request,
+        Err(status) => return status,
+    };
+    let rules: Rules = match read_file(alloc, files.rules, cabinet) {
+        Ok(rules) => rules,
+        Err(status) => return status,
+    };
+    let Ok(line) = line_of(alloc, &store, &request, &rules) else {
+        return Status::Memory;
+    };
+    print_lines(&[line], Status::Done, out)
+}
+
+// Does what `draft` does with words in its form.
+pub(crate) fn draft<C: Cabinet, O: Sink>(
+    alloc: Global,
+    words: &[Word],
+    cabinet: &mut C,
+    out: &mut O,
+) -> Status
+    requires { is_in_form (row Draft) words.now ≡ true }
+    ensures { Does (files_named (record { command = Draft; words = words.now })) draft_outcome
+        (world (C.state cabinet.old) (O.state out.old)) (world (C.state cabinet.new) (O.state out.new)) result }
+{
+    draft_files(alloc, files_of(words), cabinet, out)
 }

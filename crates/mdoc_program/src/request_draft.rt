@@ -1,10 +1,36 @@
 // A request that is being made.
-use crate::DocDraft;
-use mdoc_outside::Rows;
+use crate::form::Form;
+use crate::{DocDraft, FileFault, FormCheck, Role, Status, read_wishes};
+use mdoc_outside::{Octets, Rows};
+use std::alloc::Global;
 
 /// A request: the documents that it asks for, in order.
 #[derive(Drop)]
 pub struct RequestDraft {
     /// The documents.
     pub documents: Rows<DocDraft>,
+}
+
+impl Form for RequestDraft {
+    ghost use Rattle.mdoc_program.specs.declared.role.Role.TheVariants as roles;
+    ghost use Rattle.mdoc_program.specs.Content.{OfWishes};
+
+    ghost role = { roles.Wishes };
+
+    ghost content = { λ r. OfWishes r.documents };
+
+    fn file_role() -> Role {
+        Role::Wishes
+    }
+
+    fn from_bytes(alloc: Global, text: Octets) -> Result<Self, Status> {
+        match read_wishes(alloc, text.as_slice()) {
+            Ok(request) => Ok(request),
+            Err(FileFault::Line(number)) => {
+                Err(Status::Form(Role::Wishes, FormCheck::Line, number))
+            }
+            Err(FileFault::Limit(name, number)) => Err(Status::Limit(name, number)),
+            Err(FileFault::Memory) => Err(Status::Memory),
+        }
+    }
 }

@@ -4,9 +4,10 @@ ghost use Rattle.mdoc_program.specs.Grammar.{ReadsLines};
 ghost use Rattle.mdoc_program.specs.Rules.{approved, rules_of};
 ghost use Rattle.mdoc_program.specs.Wish.{wanted};
 
+use crate::form::Form;
 use crate::rule_line::read_rule;
-use crate::{Rule, RuleFault, Wish};
-use mdoc_outside::lines_of;
+use crate::{FormCheck, Role, Rule, RuleFault, Status, Wish};
+use mdoc_outside::{Octets, lines_of};
 use std::alloc::Global;
 use std::marker::Model;
 
@@ -48,5 +49,26 @@ impl Rules {
             }
         }
         false
+    }
+}
+
+impl Form for Rules {
+    ghost use Rattle.mdoc_program.specs.declared.role.Role.TheVariants as roles;
+    ghost use Rattle.mdoc_program.specs.Content.{OfRules};
+
+    ghost role = { roles.Rules };
+
+    ghost content = { λ r. OfRules r };
+
+    fn file_role() -> Role {
+        Role::Rules
+    }
+
+    fn from_bytes(alloc: Global, text: Octets) -> Result<Self, Status> {
+        match Rules::read(alloc, text.as_slice()) {
+            Ok(rules) => Ok(rules),
+            Err(RuleFault::Line(number)) => Err(Status::Form(Role::Rules, FormCheck::Line, number)),
+            Err(RuleFault::Memory) => Err(Status::Memory),
+        }
     }
 }

@@ -76,7 +76,7 @@ fn words(rt: HostRuntime) -> Result<(), Fail> {
     ] {
         let outcome = outcome_of(alloc, words, FILES, &[], &[])?;
         assert_eq!(rt; outcome.status.as_str(), status, "{words}");
-        assert_eq!(rt; outcome.printed.is_empty(), status != "Done", "{words}");
+        assert_eq!(rt; outcome.printed.as_slice().is_empty(), status != "Done", "{words}");
     }
     Ok(())
 }
@@ -93,7 +93,7 @@ fn failing_calls(rt: HostRuntime) -> Result<(), Fail> {
             "the cabinet's call {call}"
         );
         assert_eq!(rt;
-            outcome.printed.is_empty(),
+            outcome.printed.as_slice().is_empty(),
             call < 3,
             "the cabinet's call {call}"
         );
@@ -103,7 +103,7 @@ fn failing_calls(rt: HostRuntime) -> Result<(), Fail> {
         let status = if call < 1 { "Sink" } else { "Done" };
         assert_eq!(rt; outcome.status.as_str(), status, "the sink's call {call}");
         assert_eq!(rt;
-            outcome.printed.is_empty(),
+            outcome.printed.as_slice().is_empty(),
             call < 1,
             "the sink's call {call}"
         );
@@ -124,7 +124,7 @@ fn files_that_are_too_long(rt: HostRuntime) -> Result<(), Fail> {
     let files: &[Named<'_>] = &[("s", longest.as_slice()), ("r", RULES)];
     let outcome = outcome_of(alloc, WORDS, files, &[], &[])?;
     assert_eq!(rt; outcome.status.as_str(), "Limit FileBytes 16777217");
-    assert!(rt; outcome.printed.is_empty());
+    assert!(rt; outcome.printed.as_slice().is_empty());
     Ok(())
 }
 
@@ -162,7 +162,46 @@ fn faults_of_line_files(rt: HostRuntime) -> Result<(), Fail> {
         ];
         let outcome = outcome_of(alloc, WORDS, files, &[], &[])?;
         assert_eq!(rt; outcome.status.as_str(), status, "{wishes} {rules}");
-        assert!(rt; outcome.printed.is_empty(), "{wishes} {rules}");
+        assert!(rt; outcome.printed.as_slice().is_empty(), "{wishes} {rules}");
+    }
+    Ok(())
+}
+
+// The files are read in the order of the table up to the first that ends the run, each once and no other, and each line
+// is one put.
+#[test]
+fn calls_of_a_run(rt: HostRuntime) -> Result<(), Fail> {
+    let alloc = rt.alloc();
+    let whole = format!(in alloc; "{PRINTED}|")?;
+    for (words, cabinet_fails, sink_fails, status, calls, puts) in [
+        (WORDS, None, None, "Done", "rs rw rr", whole.as_str()),
+        ("draft --rules r --wishes w --store s", None, None, "Done", "rs rw rr", whole.as_str()),
+        // an earlier file is missing, before the cabinet would fail at a later one
+        ("draft --store s --wishes x --rules r", Some(2u64), None, "Missing Wishes", "rs rx", ""),
+        ("draft --store x --wishes w --rules r", Some(1), None, "Missing Store", "rx", ""),
+        // and the cabinet fails at an earlier one, before a later one is missing
+        ("draft --store s --wishes w --rules x", Some(1), None, "Cabinet", "rs Rw", ""),
+        ("draft --store s --wishes x --rules r", Some(1), None, "Cabinet", "rs Rx", ""),
+        // an earlier file is outside its form
+        ("draft --store s --wishes r --rules r", Some(2), None, "Form Wishes Line 1", "rs rr", ""),
+        // one file in two roles is read twice, once for each
+        ("draft --store s --wishes w --rules w", None, None, "Form Rules Line 1", "rs rw rw", ""),
+        (WORDS, None, Some(0u64), "Sink", "rs rw rr", "!"),
+        ("draft --store s --wishes w", None, None, "Usage", "", ""),
+    ] {
+        let fails = match cabinet_fails {
+            Some(call) => vec![in alloc; call]?,
+            None => Vec::new(alloc),
+        };
+        let put_fails = match sink_fails {
+            Some(call) => vec![in alloc; call]?,
+            None => Vec::new(alloc),
+        };
+        let files: &[Named<'_>] = &[("s", EMPTY), ("w", WISHES), ("r", RULES), ("other", RULES)];
+        let outcome = outcome_of(alloc, words, files, &fails, &put_fails)?;
+        assert_eq!(rt; outcome.status.as_str(), status, "{words}");
+        assert_eq!(rt; outcome.calls.as_slice(), calls.as_bytes(), "{words}");
+        assert_eq!(rt; outcome.puts.as_slice(), puts.as_bytes(), "{words}");
     }
     Ok(())
 }

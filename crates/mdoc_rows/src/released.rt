@@ -274,7 +274,7 @@ fn no_stores(rt: HostRuntime) -> Result<(), Fail> {
         let store = joined(alloc, &[front, back])?;
         let outcome = drafted(alloc, &store, "document d\nwant n a 0\n", ALL)?;
         assert_eq!(rt; outcome.status.as_str(), status, "{store:?}");
-        assert!(rt; outcome.printed.is_empty(), "{store:?}");
+        assert!(rt; outcome.printed.as_slice().is_empty(), "{store:?}");
     }
     Ok(())
 }

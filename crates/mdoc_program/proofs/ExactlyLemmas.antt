@@ -1,0 +1,176 @@
+-- Where each status comes.
+use Rattle.std.proofs.Common.{◌≡◌, ℕ, true, false, cond, List, [], ◌∷◌, ◌++◌, map, Option, Some, None, Result, Ok, Err, inl, inr, refl, ap, subst, ◌∙◌}
+use Rattle.std.specs.Prelude.{length, nat_le, option_map, ◌↔◌}
+use Rattle.doc_store.specs.Faults.{store_fault}
+use Rattle.doc_store.specs.declared.first_fault.Fault.{Fault}
+use Rattle.doc_store.specs.declared.store_check.StoreCheck.{StoreCheck}
+use Rattle.doc_store.specs.declared.store_check.StoreCheck.TheVariants as stores
+use Rattle.mdoc_outside.specs.ResultSteps.{◌>>=◌}
+use Rattle.mdoc_outside.specs.declared.limit_name.LimitName.TheVariants.{FileBytes}
+use Rattle.mdoc_outside.specs.declared.sink_call.SinkCall.{SinkCall}
+use Rattle.mdoc_outside.specs.declared.sink_call.SinkCall.TheVariants.{Put}
+use Rattle.mdoc_program.specs.Commands.{outcome, work_of}
+use Rattle.mdoc_program.specs.Content.{Content, StoreFile, check_status, form, content_of, or_bad_line, or_status, store_file, without_fault}
+use Rattle.mdoc_program.specs.Exactly.{AtFirst, CabinetExactly, DoneOnlyOpened, DonePrintsAll, FormExactly, IsAbsent, IsRefused, LimitExactly, MissingExactly}
+use Rattle.mdoc_program.specs.Order.{Order}
+use Rattle.mdoc_program.specs.Outcome.{Answer, Failed, FileName, Found, Outcome, after_reads, files_named, if_opened}
+use Rattle.mdoc_program.specs.Rules.{rules_of}
+use Rattle.mdoc_program.specs.Run.{AreOpened, End, FileFailed, IsComplete, LineFailed, Stop, Wanting, put_calls, status_at}
+use Rattle.mdoc_program.specs.Wishes.{wishes_of}
+use Rattle.mdoc_program.specs.declared.file_fault.FileFault.{FileFault}
+use Rattle.mdoc_program.specs.declared.file_fault.FileFault.TheVariants as faults
+use Rattle.mdoc_program.specs.declared.role.Role.{Role}
+use Rattle.mdoc_program.specs.declared.role.Role.TheVariants as roles
+use Rattle.mdoc_program.specs.declared.status.Status.{Status}
+use Rattle.mdoc_program.specs.declared.status.Status.TheVariants as statuses
+use Rattle.mdoc_program.proofs.CommandLemmas.{completes}
+
+-- ---- the first file that isn't opened
+
+-- the answer to the read of a file ends the run with this status
+abbrev Ends : Status → FileName → Answer → Type 0
+Ends status file (Found found) = content_of file.role found ≡ Err status
+Ends status file Failed = statuses.Cabinet ≡ status
+
+module _ (status : Status) (P : FileName → Answer → Type 0) (to : (file : FileName) (answer : Answer) → Ends status file answer → P file answer)
+    (from : (file : FileName) (answer : Answer) → P file answer → Ends status file answer) (no_memory : statuses.Memory ≡ status → ⊥) where
+  only : (files : List FileName) (answers : List Answer) (work : List Content → Outcome) → ((contents : List Content) → (work contents).status ≡ status → ⊥) →
+      (after_reads files answers work).status ≡ status → AtFirst P files answers
+  only [] answers work never is = absurd (never [] is)
+  only (file ∷ files) [] work never is = absurd (no_memory is)
+  only (file ∷ files) (Failed ∷ answers) work never is = inl (to file Failed is)
+  only (file ∷ files) ((Found found) ∷ answers) work never is =
+      elim (content_of file.role found) as (λ r. content_of file.role found ≡ r →
+      (if_opened r (λ content. after_reads files answers (λ contents. work (content ∷ contents)))).status ≡ status → AtFirst P (file ∷ files) (Found found ∷ answers)) [
+        | Ok content ↦ λ gives e. inr ((content, gives), only files answers (λ contents. work (content ∷ contents)) (λ contents. never (content ∷ contents)) e)
+        | Err other ↦ λ gives e. inl (to file (Found found) (gives ∙ ap Err e))
+      ] refl is
+
+  there : (files : List FileName) (answers : List Answer) (work : List Content → Outcome) → AtFirst P files answers → (after_reads files answers work).status ≡ status
+  there [] answers work first = absurd first
+  there (file ∷ files) [] work first = absurd first
+  there (file ∷ files) (Failed ∷ answers) work (inl this) = from file Failed this
+  there (file ∷ files) (Failed ∷ answers) work (inr later) = absurd later.0
+  there (file ∷ files) ((Found found) ∷ answers) work (inl this) =
+      ap (λ (r : Result Content Status). (if_opened r (λ content. after_reads files answers (λ contents. work (content ∷ contents)))).status) (from file (Found found) this)
+  there (file ∷ files) ((Found found) ∷ answers) work (inr later) =
+      ap (λ (r : Result Content Status). (if_opened r (λ content. after_reads files answers (λ contents. work (content ∷ contents)))).status) later.0.1
+      ∙ there files answers (λ contents. work (later.0.0 ∷ contents)) later.1
+
+  exactly : (o : Order) (answers : List Answer) → (IsComplete status → ⊥) → ((outcome o answers).status ≡ status) ↔ AtFirst P (files_named o) answers
+  exactly o answers incomplete = (
+    only (files_named o) answers (work_of o.command) (λ contents is. incomplete (subst IsComplete is (completes o.command contents))),
+    there (files_named o) answers (work_of o.command),
+  )
+
+-- ---- what is told of a file that is there: its form, or a limit
+
+abbrev IsOfForm : Result Content Status → Type 0
+IsOfForm (Ok content) = Unit {0}
+IsOfForm (Err (statuses.Form role check at)) = Unit {0}
+IsOfForm (Err (statuses.Limit limit number)) = Unit {0}
+IsOfForm (Err statuses.Memory) = Unit {0}
+IsOfForm (Err status) = ⊥
+
+store-form : (found : Option Fault) (file : StoreFile) → IsOfForm (without_fault found file)
+store-form None file = tt
+store-form (Some found) file = of_check found.at found.check where
+  of_check : (at : ℕ) (check : StoreCheck) → IsOfForm (Err (check_status at check))
+  of_check at (stores.Cbor kind) = tt
+  of_check at (stores.Field key) = tt
+  of_check at stores.Version = tt
+  of_check at stores.Doubled = tt
+  of_check at (stores.Item found) = tt
+  of_check at (stores.Limit limit number) = tt
+
+lines-form : {A : Type 0} (role : Role) (content : A → Content) (read : Result A FileFault) → IsOfForm (or_status role content read)
+lines-form role content (Ok value) = tt
+lines-form role content (Err (faults.Line number)) = tt
+lines-form role content (Err (faults.Limit limit number)) = tt
+lines-form role content (Err faults.Memory) = tt
+
+rules-form : {A : Type 0} (role : Role) (content : A → Content) (read : Result A ℕ) → IsOfForm (or_bad_line role content read)
+rules-form role content (Ok value) = tt
+rules-form role content (Err number) = tt
+
+of-form : (role : Role) (bytes : List ℕ) → IsOfForm (form role bytes)
+of-form roles.Store bytes = store-form (store_fault bytes) (store_file bytes)
+of-form roles.Wishes bytes = lines-form roles.Wishes _ (wishes_of bytes)
+of-form roles.Rules bytes = rules-form roles.Rules _ (rules_of bytes)
+of-form role bytes = tt
+
+of-file : (role : Role) (bytes : List ℕ) → IsOfForm (content_of role (Some bytes))
+of-file role bytes =
+    elim (nat_le (length bytes) 16777216) as (λ t. IsOfForm (cond t (Ok bytes) (Err (statuses.Limit FileBytes (length bytes))) >>= form role))
+    [ true ↦ of-form role bytes | false ↦ tt ]
+
+told-of_file : (role : Role) (bytes : List ℕ) (status : Status) → content_of role (Some bytes) ≡ Err status → IsOfForm (Err status)
+told-of_file role bytes status is = subst IsOfForm is (of-file role bytes)
+
+-- ---- the laws
+
+to-absent : (role : Role) (file : FileName) (answer : Answer) → Ends (statuses.Missing role) file answer → IsAbsent role file answer
+to-absent role file (Found None) ends = (cc, refl)
+to-absent role file (Found (Some bytes)) ends = absurd (told-of_file file.role bytes (statuses.Missing role) ends)
+to-absent role file Failed ends = absurd cc
+
+from-absent : (role : Role) (file : FileName) (answer : Answer) → IsAbsent role file answer → Ends (statuses.Missing role) file answer
+from-absent role file (Found None) absent = ap (λ (r : Role). Err (statuses.Missing r)) absent.0
+from-absent role file (Found (Some bytes)) absent = let e = absent.1 in absurd cc
+from-absent role file Failed absent = let e = absent.1 in absurd cc
+
+pub missing_exactly : MissingExactly
+missing_exactly o answers role = exactly (statuses.Missing role) (IsAbsent role) (to-absent role) (from-absent role) (λ e. cc) o answers (λ h. h)
+
+to-refused : (status : Status) → (statuses.Cabinet ≡ status → ⊥) → (file : FileName) (answer : Answer) → Ends status file answer → IsRefused status file answer
+to-refused status other file (Found found) ends = ends
+to-refused status other file Failed ends = absurd (other ends)
+
+from-refused : (status : Status) (file : FileName) (answer : Answer) → IsRefused status file answer → Ends status file answer
+from-refused status file (Found found) refused = refused
+from-refused status file Failed refused = absurd refused
+
+pub form_exactly : FormExactly
+form_exactly o answers role check at =
+    exactly (statuses.Form role check at) (IsRefused (statuses.Form role check at)) (to-refused _ (λ e. cc)) (from-refused _) (λ e. cc) o answers (λ h. h)
+
+pub limit_exactly : LimitExactly
+limit_exactly o answers limit number =
+    exactly (statuses.Limit limit number) (IsRefused (statuses.Limit limit number)) (to-refused _ (λ e. cc)) (from-refused _) (λ e. cc) o answers (λ h. h)
+
+to-failed : (file : FileName) (answer : Answer) → Ends statuses.Cabinet file answer → answer ≡ Failed
+to-failed file (Found None) ends = absurd cc
+to-failed file (Found (Some bytes)) ends = absurd (told-of_file file.role bytes statuses.Cabinet ends)
+to-failed file Failed ends = refl
+
+from-failed : (file : FileName) (answer : Answer) → answer ≡ Failed → Ends statuses.Cabinet file answer
+from-failed file (Found found) is = absurd cc
+from-failed file Failed is = refl
+
+pub cabinet_exactly : CabinetExactly
+cabinet_exactly o answers = exactly statuses.Cabinet (λ file answer. answer ≡ Failed) to-failed from-failed (λ e. cc) o answers (λ h. h)
+
+done-opened : (files : List FileName) (answers : List Answer) (work : List Content → Outcome) → (after_reads files answers work).status ≡ statuses.Done → AreOpened files answers
+done-opened [] answers work is = tt
+done-opened (file ∷ files) [] work is = absurd cc
+done-opened (file ∷ files) (Failed ∷ answers) work is = absurd cc
+done-opened (file ∷ files) ((Found None) ∷ answers) work is = absurd cc
+done-opened (file ∷ files) ((Found (Some bytes)) ∷ answers) work is =
+    elim (content_of file.role (Some bytes)) as (λ r. content_of file.role (Some bytes) ≡ r →
+    (if_opened r (λ content. after_reads files answers (λ contents. work (content ∷ contents)))).status ≡ statuses.Done → AreOpened (file ∷ files) (Found (Some bytes) ∷ answers)) [
+      | Ok content ↦ λ gives e. ((content, gives), done-opened files answers (λ contents. work (content ∷ contents)) e)
+      | Err status ↦ λ gives e. absurd (subst (λ (s : Status). IsOfForm (Err s)) e (told-of_file file.role bytes status gives))
+    ] refl is
+
+pub done_only_opened : DoneOnlyOpened
+done_only_opened o answers is = done-opened (files_named o) answers (work_of o.command) is
+
+done-prints : (stop : Stop) (outcome : Outcome) (told now : Option (List SinkCall)) → statuses.Done ≡ status_at stop outcome →
+    now ≡ option_map (λ (calls : List SinkCall). calls ++ put_calls stop outcome) told → now ≡ option_map (λ (calls : List SinkCall). calls ++ map Put outcome.lines) told
+done-prints End outcome told now is printed = printed
+done-prints (FileFailed files file) outcome told now is printed = absurd cc
+done-prints (LineFailed lines line) outcome told now is printed = absurd cc
+done-prints (Wanting files lines) outcome told now is printed = absurd cc
+
+pub done_prints_all : DonePrintsAll
+done_prints_all o before now runs = done-prints runs.run.stop (outcome o runs.run.answers) before.sink.told now.sink.told runs.run.answer runs.run.printed

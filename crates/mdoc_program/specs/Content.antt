@@ -1,0 +1,81 @@
+-- What a file gives, by its role: it is there, is not too long, and is in its form; else the status that tells what is wrong.
+use Rattle.std.specs.Prelude.{ℕ, nat_le, List, [], length, Option, Some, None, Result, Ok, Err, if◌then◌else◌, unwrap_or}
+use Rattle.mdoc_outside.specs.ResultSteps.{◌>>=◌}
+use Rattle.doc_store.specs.Faults.{store_fault}
+use Rattle.doc_store.specs.Store.{Store, store}
+use Rattle.doc_store.specs.declared.first_fault.Fault.{Fault}
+use Rattle.doc_store.specs.declared.store_check.StoreCheck.{StoreCheck}
+use Rattle.doc_store.specs.declared.store_check.StoreCheck.TheVariants as stores
+use Rattle.mdoc_outside.specs.declared.limit_name.LimitName.TheVariants.{FileBytes}
+use Rattle.mdoc_program.specs.Rules.{rules_of}
+use Rattle.mdoc_program.specs.Wishes.{wishes_of}
+use Rattle.mdoc_program.specs.declared.doc_draft.DocDraft.{DocDraft}
+use Rattle.mdoc_program.specs.declared.file_fault.FileFault.{FileFault}
+use Rattle.mdoc_program.specs.declared.file_fault.FileFault.TheVariants as faults
+use Rattle.mdoc_program.specs.declared.form_check.FormCheck.TheVariants as checks
+use Rattle.mdoc_program.specs.declared.role.Role.{Role}
+use Rattle.mdoc_program.specs.declared.role.Role.TheVariants as roles
+use Rattle.mdoc_program.specs.declared.rule.Rule.{Rule}
+use Rattle.mdoc_program.specs.declared.status.Status.{Status}
+use Rattle.mdoc_program.specs.declared.status.Status.TheVariants.{Missing, Form, Limit, Memory}
+
+-- a store file beside the store that it spells
+pub record StoreFile : Type 0 where
+  pub bytes : List ℕ
+  pub documents : Store
+
+abbrev pub store_file : List ℕ → StoreFile
+store_file bytes = record { bytes = bytes; documents = unwrap_or (store bytes) [] }
+
+-- What a file of a role gives.
+pub data Content : Type 0 where
+  OfStore : StoreFile → Content
+  OfWishes : List DocDraft → Content
+  OfRules : List Rule → Content
+  -- of a role that no command reads yet
+  Unread : Content
+
+-- The bytes of a file: it is there, and has at most 16,777,216 bytes.
+abbrev pub bytes_of : Role → Option (List ℕ) → Result (List ℕ) Status
+bytes_of role None = Err (Missing role)
+bytes_of role (Some bytes) = if nat_le (length bytes) 16777216 then Ok bytes else Err (Limit FileBytes (length bytes))
+
+-- the status of a line file with this fault
+abbrev pub status_of : Role → FileFault → Status
+status_of role (faults.Line number) = Form role checks.Line number
+status_of role (faults.Limit limit number) = Limit limit number
+status_of role faults.Memory = Memory
+
+-- what a line file says, or the status of its first fault
+abbrev pub or_status : {A : Type 0} → Role → (A → Content) → Result A FileFault → Result Content Status
+or_status role content (Ok value) = Ok (content value)
+or_status role content (Err fault) = Err (status_of role fault)
+
+-- what the lines of a file say, or the status of the first one outside the grammar
+abbrev pub or_bad_line : {A : Type 0} → Role → (A → Content) → Result A ℕ → Result Content Status
+or_bad_line role content (Ok value) = Ok (content value)
+or_bad_line role content (Err number) = Err (Form role checks.Line number)
+
+-- the status of a store file by its first fault: a limit that is exceeded, or the check that fails, and where
+abbrev pub check_status : ℕ → StoreCheck → Status
+check_status at (stores.Limit limit number) = Limit limit number
+check_status at check = Form roles.Store (checks.Store check) at
+
+abbrev pub fault_status : Fault → Status
+fault_status f = check_status f.at f.check
+
+-- A file without a fault spells a store; else its first fault is told.
+abbrev pub without_fault : Option Fault → StoreFile → Result Content Status
+without_fault None file = Ok (OfStore file)
+without_fault (Some f) file = Err (fault_status f)
+
+-- the form of a file
+abbrev pub form : Role → List ℕ → Result Content Status
+form roles.Store bytes = without_fault (store_fault bytes) (store_file bytes)
+form roles.Wishes text = or_status roles.Wishes OfWishes (wishes_of text)
+form roles.Rules text = or_bad_line roles.Rules OfRules (rules_of text)
+form role bytes = Ok Unread
+
+-- What was found under a name gives: its reading, its length, its form.
+abbrev pub content_of : Role → Option (List ℕ) → Result Content Status
+content_of role found = bytes_of role found >>= form role

@@ -1,0 +1,58 @@
+-- What a run comes to, by what it saw of the outside.
+use Rattle.std.specs.Prelude.{ℕ, List, [], ◌∷◌, filter_map, Option, None, option_map, Result, Ok, Err}
+use Rattle.doc_store.specs.Held.{Place}
+use Rattle.mdoc_program.specs.Content.{Content, content_of}
+use Rattle.mdoc_program.specs.Order.{Order, Pair, row, value_of}
+use Rattle.mdoc_program.specs.declared.pair_kind.PairKind.{PairKind}
+use Rattle.mdoc_program.specs.declared.pair_kind.PairKind.TheVariants.{File}
+use Rattle.mdoc_program.specs.declared.role.Role.{Role}
+use Rattle.mdoc_program.specs.declared.status.Status.{Status}
+use Rattle.mdoc_program.specs.declared.status.Status.TheVariants.{Cabinet, Memory}
+
+-- ---- what is read
+
+-- A file that an order names, and what it is for.
+pub record FileName : Type 0 where
+  pub role : Role
+  pub name : List ℕ
+
+abbrev pub file_of_kind : PairKind → Option (List ℕ) → Option FileName
+file_of_kind (File role) value = option_map (λ (name : List ℕ). record { role = role; name = name }) value
+file_of_kind kind value = None
+
+-- the files of an order, in the order of the table
+abbrev pub files_named : Order → List FileName
+files_named order = filter_map (λ (pair : Pair). file_of_kind pair.kind (value_of pair.name order.words)) (row order.command)
+
+-- What the cabinet answered to a read: what it found, or that it failed.
+pub data Answer : Type 0 where
+  Found : Option (List ℕ) → Answer
+  Failed : Answer
+
+-- ---- what a run comes to
+
+-- The status, the lines that are printed, each by one put, the files that are written, in order, and the places of the
+-- released items.
+pub record Outcome : Type 0 where
+  pub status : Status
+  pub lines : List (List ℕ)
+  pub files : List (List ℕ × List ℕ)
+  pub released : List Place
+
+-- nothing but a status
+abbrev pub only_status : Status → Outcome
+only_status status = record { status = status; lines = []; files = []; released = [] }
+
+-- a file is opened, or its status ends the run
+abbrev pub if_opened : Result Content Status → (Content → Outcome) → Outcome
+if_opened (Ok content) next = next content
+if_opened (Err status) next = only_status status
+
+-- The files are read one by one, each judged before the next is read, and then comes the work. Answers that end early
+-- are those of a run that wanted memory.
+abbrev pub after_reads : List FileName → List Answer → (List Content → Outcome) → Outcome
+after_reads [] answers work = work []
+after_reads (file ∷ files) [] work = only_status Memory
+after_reads (file ∷ files) (Failed ∷ answers) work = only_status Cabinet
+after_reads (file ∷ files) ((Found found) ∷ answers) work =
+    if_opened (content_of file.role found) (λ content. after_reads files answers (λ contents. work (content ∷ contents)))

@@ -1,0 +1,91 @@
+// The rows of the table of commands.
+ghost use Rattle.std.specs.Prelude.{◌≡◌, ◌<◌, ◌^◌, map};
+ghost use Rattle.std.specs.Str.{all_ascii_digits};
+ghost use Rattle.mdoc_program.specs.Number.{has_leading_zero, is_number, is_plain};
+ghost use Rattle.mdoc_program.specs.Order.{is_value, is_of_kind};
+
+use crate::{PairKind, Role};
+
+// A pair of words of a command: the name, what the value is, and whether it has to be there.
+#[derive(Clone, Copy)]
+pub(crate) struct Pair {
+    pub(crate) name: &'static str,
+    pub(crate) kind: PairKind,
+    pub(crate) needed: bool,
+}
+
+impl Pair {
+    ghost use Rattle.mdoc_program.specs.Order.{needed_file};
+    ghost use Rattle.mdoc_program.specs.Row.{pair_seen};
+
+    // A file that has to be named.
+    pub(crate) fn needed_file(name: &'static str, role: Role) -> Pair
+        ensures { pair_seen result ≡ needed_file name.now role }
+    {
+        Pair {
+            name,
+            kind: PairKind::File(role),
+            needed: true,
+        }
+    }
+}
+
+// Whether a word may be a value: it doesn't begin with `-`.
+fn is_value(word: &str) -> bool
+    ensures { result ≡ is_value word.now }
+{
+    !matches!(word.as_bytes(), [b'-', ..])
+}
+
+// Whether a 0 stands before another digit.
+fn has_leading_zero(word: &str) -> bool
+    ensures { result ≡ has_leading_zero word.now }
+{
+    matches!(word.as_bytes(), [b'0', _, ..])
+}
+
+// Whether bytes are decimal digits alone.
+fn are_digits(bytes: &[u8]) -> bool
+    ensures { result ≡ all_ascii_digits bytes.now }
+{
+    for byte in bytes {
+        if !byte.is_ascii_digit() {
+            return false;
+        }
+    }
+    true
+}
+
+// Whether a word is decimal digits alone, without leading zeros.
+fn is_plain(word: &str) -> bool
+    ensures { result ≡ is_plain word.now }
+{
+    let digits = word.as_bytes();
+    !digits.is_empty() && are_digits(digits) && !has_leading_zero(word)
+}
+
+// Whether a word is a number from the least to the most.
+#[tactic(auto, using(crate::proofs::NumberLemmas::too_large))]
+fn is_number(least: u64, most: u64, word: &str) -> bool
+    ensures { result ≡ is_number least most word.now }
+{
+    if !is_plain(word) {
+        return false;
+    }
+    match word.parse::<u64>() {
+        Ok(number) => least <= number && number <= most,
+        Err(_) => false,
+    }
+}
+
+impl PairKind {
+    // Whether a word is a value of this kind.
+    pub(crate) fn has(&self, word: &str) -> bool
+        ensures { result ≡ is_of_kind self.now word.now }
+    {
+        match *self {
+            PairKind::File(_) | PairKind::Text => is_value(word),
+            PairKind::Number(least, most) => is_number(least, most, word),
+        }
+    }
+}

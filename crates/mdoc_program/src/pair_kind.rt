@@ -1,0 +1,13 @@
+// What the value of a pair of words is.
+use crate::Role;
+
+/// What the value that stands with a name is.
+#[derive(Clone, Copy)]
+pub enum PairKind {
+    /// The name of a file of this role.
+    File(Role),
+    /// A number from the first to the second, in decimal digits.
+    Number(u64, u64),
+    /// A text.
+    Text,
+}

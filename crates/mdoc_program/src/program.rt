@@ -1,0 +1,59 @@
+// The top call: everything that the program does.
+ghost use Rattle.std.specs.Prelude.{◌≡◌, ◌↔◌, true, IfSome, IsNone};
+ghost use Rattle.mdoc_program.specs.Agreeing.{Agreeing};
+ghost use Rattle.mdoc_program.specs.Commands.{work_of};
+ghost use Rattle.mdoc_program.specs.Order.{is_in_form, order, row};
+ghost use Rattle.mdoc_program.specs.Orders.{order_seen};
+ghost use Rattle.mdoc_program.specs.Outcome.{files_named};
+ghost use Rattle.mdoc_program.specs.Run.{Runs};
+ghost use Rattle.mdoc_program.specs.Steps.{Does};
+ghost use Rattle.mdoc_program.specs.World.{world};
+
+use crate::draft::draft;
+use crate::order::{Order, order_of};
+use crate::{Command, Status};
+use mdoc_outside::{Cabinet, Sink, Word};
+use std::alloc::Global;
+
+// Does what the command of an order does.
+fn dispatch<C: Cabinet, O: Sink>(
+    alloc: Global,
+    order: Order<'_>,
+    cabinet: &mut C,
+    out: &mut O,
+) -> Status
+    requires { is_in_form (row order.command) order.words.now ≡ true }
+    ensures { Does (files_named (order_seen order.entry)) (work_of order.entry.command)
+        (world (C.state cabinet.old) (O.state out.old)) (world (C.state cabinet.new) (O.state out.new)) result }
+{
+    match order.command {
+        Command::Draft => draft(alloc, order.words, cabinet, out),
+    }
+}
+
+/// Runs the command that the words give, over the files of the cabinet, and prints to the sink. The moment,
+/// in seconds since 1970, is for commands that ask for one; it is not looked at yet.
+#[tactic(auto, using(crate::proofs::AgreeingLemmas::agreeing))]
+pub fn run<C: Cabinet, O: Sink>(
+    alloc: Global,
+    words: &[Word],
+    moment: i64,
+    cabinet: &mut C,
+    out: &mut O,
+) -> Status
+    // Usage exactly where the words aren't in the form of a command, and then nothing is done.
+    ensures usage { (result ≡ Status.Usage) ↔ IsNone (order words.now) }
+    ensures untouched { IsNone (order words.now) →
+        world (C.state cabinet.new) (O.state out.new) ≡ world (C.state cabinet.old) (O.state out.old) }
+    // Else there are answers of the outside by which status, lines and files are the command's outcome.
+    ensures runs { IfSome (order words.now) (λ order.
+        Runs order (world (C.state cabinet.old) (O.state out.old)) (world (C.state cabinet.new) (O.state out.new)) result) }
+    // The lines of that outcome are those of each store that agrees with the one that was read, up to the released items.
+    ensures agreeing { Agreeing }
+{
+    let _ = moment;
+    let Some(order) = order_of(words) else {
+        return Status::Usage;
+    };
+    dispatch(alloc, order, cabinet, out)
+}
