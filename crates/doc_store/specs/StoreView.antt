@@ -16,11 +16,14 @@ abbrev pub ReadsStore : Result read.Store StoreFault → List ℕ → Type 0
 ReadsStore (Ok s) bytes = (store bytes ≡ Some (documents_in s)) × (store_fault bytes ≡ None)
 ReadsStore (Err f) bytes = IsFault f bytes
 
--- the documents that the bytes of a file spell
-abbrev pub documents_of_file : StoreFile → Store
-documents_of_file f = unwrap_or (store f.bytes) []
+-- the bytes of a file, and the documents that they spell
+abbrev pub bytes_of_file : StoreFile → List ℕ
+bytes_of_file f = f.bytes
 
--- The same of a file: where it is read, its documents are those that the bytes spell.
+abbrev pub documents_of_file : StoreFile → Store
+documents_of_file f = unwrap_or (store (bytes_of_file f)) []
+
+-- The same of a file, which keeps the bytes.
 abbrev pub ReadsStoreFile : Result StoreFile StoreFault → List ℕ → Type 0
-ReadsStoreFile (Ok f) bytes = (store bytes ≡ Some (documents_of_file f)) × (store_fault bytes ≡ None)
+ReadsStoreFile (Ok f) bytes = (bytes_of_file f ≡ bytes) × (store bytes ≡ Some (documents_of_file f)) × (store_fault bytes ≡ None)
 ReadsStoreFile (Err fault) bytes = IsFault fault bytes

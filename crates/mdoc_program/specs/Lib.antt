@@ -26,8 +26,6 @@ pub mod Rules
 pub mod Run
 pub mod Status
 pub mod Steps
-pub mod StoreBytes
-pub mod StoreCheck
 pub mod Texts
 pub mod Wish
 pub mod WishLine

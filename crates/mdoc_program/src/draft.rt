@@ -1,11 +1,11 @@
 // The command `draft`: prints the core of what the holder's rules release.
 ghost use Rattle.std.specs.Prelude.{◌≡◌, true, IfOk};
+ghost use Rattle.doc_store.specs.StoreView.{documents_of_file};
 ghost use Rattle.mdoc_program.specs.Draft.{draft_files, draft_line, draft_outcome};
 ghost use Rattle.mdoc_program.specs.Order.{is_in_form, row};
 ghost use Rattle.mdoc_program.specs.Outcome.{files_named};
 ghost use Rattle.mdoc_program.specs.Request.{IsRequest};
 ghost use Rattle.mdoc_program.specs.Steps.{Does};
-ghost use Rattle.mdoc_program.specs.StoreBytes.{documents_of};
 ghost use Rattle.mdoc_program.specs.World.{world};
 ghost use Rattle.mdoc_program.specs.declared.command.Command.TheVariants.{Draft};
 
@@ -14,8 +14,8 @@ use crate::form::read_file;
 use crate::order::value_of;
 use crate::print_lines::print_lines;
 use crate::response_writer::write_core;
-use crate::store_bytes::StoreBytes;
 use crate::{RequestDraft, Rules, Status};
+use doc_store::StoreFile;
 use mdoc_outside::{Cabinet, Memory, Octets, Sink, Word};
 use std::alloc::Global;
 
@@ -53,14 +53,14 @@ fn files_of<'a>(words: &'a [Word]) -> DraftFiles<'a>
 // The line that `draft` prints: the core of what the rules release to an unknown reader.
 fn line_of(
     alloc: Global,
-    file: &StoreBytes,
+    file: &StoreFile,
     request: &RequestDraft,
     rules: &Rules,
 ) -> Result<Octets, Memory>
     requires { IsRequest request.now.documents }
-    ensures { IfOk result (λ line. line ≡ draft_line (documents_of file.now) request.now.documents rules.now) }
+    ensures { IfOk result (λ line. line ≡ draft_line (documents_of_file file.now) request.now.documents rules.now) }
 {
-    let store = file.store(alloc)?;
+    let store = file.store();
     let documents = answer_all(alloc, &store, request.documents.as_slice(), rules)?;
     let core = write_core(alloc, &documents)?;
     let digits = hex::encode(alloc, core.as_slice())?;
@@ -80,7 +80,7 @@ fn draft_files<C: Cabinet, O: Sink>(
     ensures { Does (draft_files files.entry.store.now files.entry.wishes.now files.entry.rules.now) draft_outcome
         (world (C.state cabinet.old) (O.state out.old)) (world (C.state cabinet.new) (O.state out.new)) result }
 {
-    let store: StoreBytes = match read_file(alloc, files.store, cabinet) {
+    let store: StoreFile = match read_file(alloc, files.store, cabinet) {
         Ok(store) => store,
         Err(status) => return status,
     };

@@ -30,7 +30,7 @@ mod rule_line;
 mod rules;
 mod sharing;
 mod status;
-mod store_bytes;
+mod store_form;
 mod text_pattern;
 mod wish;
 mod wish_draft;
