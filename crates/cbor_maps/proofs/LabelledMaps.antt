@@ -1,14 +1,12 @@
 -- A map with numbers as keys that was written is read as its fields.
-use Rattle.std.proofs.Common.{◌≡◌, ℕ, suc, ◌+◌, ◌<◌, ◌≤◌, ◌^◌, if◌then◌else◌, Bool, true, false, ℤ, pos, negsuc, List, [], ◌∷◌, ◌++◌, length, Option, Some, None, Result, Ok, Err, refl, sym, ap, ◌∙◌, arith}
+use Rattle.std.proofs.Common.{◌≡◌, ℕ, suc, ◌+◌, ◌<◌, ◌^◌, if◌then◌else◌, true, false, ℤ, pos, negsuc, List, [], ◌∷◌, ◌++◌, length, Some, None, Ok, refl, sym, ap, ◌∙◌, arith}
 use Rattle.std.specs.Prelude.{flat_map, map, option_map}
 use Rattle.std.specs.Ordering.{int_eq}
 use Rattle.std.proofs.lemmas.List.{append_assoc, append-nil}
-use Rattle.cbor_view.specs.declared.doubled.Doubled.{Doubled}
 use Rattle.cbor_view.specs.Label.{Number, values_of, only_of, entries_or_none}
 use Rattle.cbor_view.specs.Parts.{Part, tree_in, pairs_in}
 use Rattle.cbor_view.specs.Reading.{tree_of}
 use Rattle.cbor_view.specs.Shortest.{map_bytes, shortest_head}
-use Rattle.cbor_view.specs.Spelling.{Fits}
 use Rattle.cbor_view.specs.Tree.{Tree, Unsigned, Negative, int_of}
 use Rattle.cbor_view.proofs.WrittenParts.{IsPiece, piece-shortest, ArePieces, entries_from, pairs_begin, pairs-written, piece-map, tree-shortest}
 use Rattle.cbor_maps.specs.Reading.{map_in}
@@ -48,17 +46,20 @@ unfolding label_bytes
 tree-label (pos n) fits = tree-shortest (Unsigned n) fits (omega arith)
 tree-label (negsuc n) fits = tree-shortest (Negative n) fits (omega arith)
 
-piece-label : (number : ℤ) → IsLabel number → IsPiece 31 (label_bytes number)
+pub piece-label : (d : ℕ) (number : ℤ) → IsLabel number → IsPiece d (label_bytes number)
 unfolding label_bytes
-piece-label (pos n) fits = piece-shortest 31 (Unsigned n) fits (omega arith)
-piece-label (negsuc n) fits = piece-shortest 31 (Negative n) fits (omega arith)
+piece-label d (pos n) fits = piece-shortest d (Unsigned n) fits (omega arith)
+piece-label d (negsuc n) fits = piece-shortest d (Negative n) fits (omega arith)
 
 pieces : (fields : List (ℤ × List ℕ)) → AreLabelled fields → ArePieces 31 (spelled_labels fields)
 pieces [] are = tt
-pieces (field ∷ fields) are = let v = are.1 in (piece-label field.0 are.0, record { item = v.item; spelled = v.spells.spelled; nesting = v.nesting }, pieces fields are.2)
+pieces (field ∷ fields) are = let v = are.1 in (piece-label 31 field.0 are.0, record { item = v.item; spelled = v.spells.spelled; nesting = v.nesting }, pieces fields are.2)
+
+pub piece-of-fields : (d : ℕ) (fields : LabelledFields) → ArePieces d (spelled_labels (labelled_values fields)) → length (labelled_values fields) < 2 ^ 32 → IsPiece (d + 1) (labelled_map fields)
+piece-of-fields d fields are few = rw (labelled-map fields) (piece-map d (spelled_labels (labelled_values fields)) are (rw (labels-length (labelled_values fields)) few))
 
 pub piece-labelled : (fields : LabelledFields) → AreLabelled (labelled_values fields) → length (labelled_values fields) < 2 ^ 32 → IsPiece 32 (labelled_map fields)
-piece-labelled fields are few = rw (labelled-map fields) (piece-map 31 (spelled_labels (labelled_values fields)) (pieces (labelled_values fields) are) (rw (labels-length (labelled_values fields)) few))
+piece-labelled fields are few = piece-of-fields 31 fields (pieces (labelled_values fields) are) few
 
 -- ---- what is under its keys
 

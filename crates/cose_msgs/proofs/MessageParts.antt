@@ -1,11 +1,11 @@
 -- What is read of a message is a part of its bytes.
-use Rattle.std.proofs.Common.{◌≡◌, ◌==◌, if◌then◌else◌, ℕ, Bool, true, false, List, [], ◌∷◌, Option, Some, None, Result, Ok, Err, refl, sym, ap, ◌∙◌, subst, option_map, IfOk, IfSome, option_and_then, pos}
+use Rattle.std.proofs.Common.{◌≡◌, ◌==◌, if◌then◌else◌, ℕ, Bool, true, false, List, [], ◌∷◌, Option, Some, None, Result, Ok, Err, refl, ap, ◌∙◌, subst, option_map, IfOk, IfSome, option_and_then, pos}
 use Rattle.std.specs.Prelude.{unwrap_or}
 use Rattle.std.specs.List.{list_all}
 use Rattle.mdoc_outside.specs.ResultSteps.{◌>>=◌, or_fault}
 use Rattle.cbor_view.specs.declared.doubled.Doubled.{Doubled}
 use Rattle.cbor_view.specs.Label.{Number}
-use Rattle.cbor_view.specs.Parts.{Part, LiesIn, AllLieIn, tree_in, tag_in, tagged, under, items_in, pairs_in, bytes_in}
+use Rattle.cbor_view.specs.Parts.{Part, LiesIn, AllLieIn, tree_in, tag_in, under, items_in, pairs_in, bytes_in}
 use Rattle.cbor_view.specs.Reading.{Gives}
 use Rattle.cbor_view.specs.Tree.{is_null}
 use Rattle.cbor_view.proofs.Contents.{entry-lies, items-lie, tagged-lies, bytes-end}

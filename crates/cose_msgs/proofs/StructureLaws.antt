@@ -1,12 +1,11 @@
 -- What is signed or authenticated determines its parts, and tells its context.
-use Rattle.std.proofs.Common.{◌≡◌, ℕ, ◌<◌, ◌^◌, List, [], ◌∷◌, ◌++◌, length, get_or, Result, Ok, Err, refl, sym, ap, ◌∙◌, arith, codes}
+use Rattle.std.proofs.Common.{◌≡◌, ℕ, ◌<◌, ◌^◌, List, [], length, get_or, Result, Ok, refl, sym, ap, ◌∙◌, arith, codes}
 use Rattle.std.specs.Prelude.{IsUtf8}
 use Rattle.cbor_view.specs.declared.cbor_fault.CborFault.{CborFault}
 use Rattle.cbor_view.specs.Reading.{reads}
-use Rattle.cbor_view.specs.Spelling.{Fits}
-use Rattle.cbor_view.specs.Tree.{Tree, Text, Bytes, Array, Trees, none, more}
+use Rattle.cbor_view.specs.Tree.{Tree, Text, Bytes, Array, none, more}
 use Rattle.cbor_view.proofs.WrittenParts.{reads-shortest}
-use Rattle.cbor_maps.proofs.WrittenMaps.{is_ascii, utf8-ascii}
+use Rattle.cbor_maps.proofs.WrittenMaps.{utf8-ascii}
 use Rattle.cose_msgs.specs.Structures.{structure, signed_structure, mac_structure}
 
 abbrev structure_tree : List ℕ → List ℕ → List ℕ → Tree

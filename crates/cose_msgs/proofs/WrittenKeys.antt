@@ -1,9 +1,9 @@
 -- A key that was written is read as its point.
-use Rattle.std.proofs.Common.{◌≡◌, ◌==◌, ◌<◌, ◌^◌, ℕ, pos, negsuc, true, List, [], ◌∷◌, length, Option, Some, None, Result, Ok, Err, refl, ap, ◌∙◌, arith, eq-eqb}
+use Rattle.std.proofs.Common.{◌≡◌, ◌<◌, ◌^◌, ℕ, pos, negsuc, List, [], ◌∷◌, length, Some, Ok, refl, arith, eq-eqb}
 use Rattle.key_device.specs.declared.point.Point.{Point}
-use Rattle.cbor_view.specs.Parts.{Part, cbor}
+use Rattle.cbor_view.specs.Parts.{Part}
 use Rattle.cbor_view.specs.Shortest.{bytes_bytes, uint_bytes}
-use Rattle.cbor_view.specs.Tree.{Tree, Unsigned, Bytes}
+use Rattle.cbor_view.specs.Tree.{Unsigned, Bytes}
 use Rattle.cbor_view.proofs.WrittenParts.{IsPiece, piece-shortest, cbor-piece, tree-shortest}
 use Rattle.cbor_maps.specs.Labels.{LabelledFields, labelled_values}
 use Rattle.cbor_maps.specs.Reading.{map_in}
@@ -32,11 +32,21 @@ short-y p is = let n = is.y in omega arith
 
 are-fields : (p : Point) → IsPoint p → AreLabelled (labelled_values (fields_of p))
 are-fields p is = (
-  omega arith, leaf (uint_bytes 2) (piece-shortest 0 (Unsigned 2) (omega arith) (omega arith)),
-  (omega arith, leaf (uint_bytes 1) (piece-shortest 0 (Unsigned 1) (omega arith) (omega arith)),
-  (omega arith, leaf (bytes_bytes p.x) (piece-shortest 0 (Bytes p.x) (short-x p is) (omega arith)),
-  (omega arith, leaf (bytes_bytes p.y) (piece-shortest 0 (Bytes p.y) (short-y p is) (omega arith)),
-  tt))),
+  omega arith,
+  leaf (uint_bytes 2) (piece-shortest 0 (Unsigned 2) (omega arith) (omega arith)),
+  (
+    omega arith,
+    leaf (uint_bytes 1) (piece-shortest 0 (Unsigned 1) (omega arith) (omega arith)),
+    (
+      omega arith,
+      leaf (bytes_bytes p.x) (piece-shortest 0 (Bytes p.x) (short-x p is) (omega arith)),
+      (
+        omega arith,
+        leaf (bytes_bytes p.y) (piece-shortest 0 (Bytes p.y) (short-y p is) (omega arith)),
+        tt,
+      ),
+    ),
+  ),
 )
 
 abbrev key_at : Point → Part

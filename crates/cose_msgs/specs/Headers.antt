@@ -6,7 +6,7 @@ use Rattle.cbor_view.specs.declared.cbor_fault.CborFault.{CborFault}
 use Rattle.cbor_view.specs.declared.doubled.Doubled.{Doubled}
 use Rattle.cbor_view.specs.Label.{Label, Number, Words, is_label, is_number, entries_or_none}
 use Rattle.cbor_view.specs.Parts.{Part, tree_in, cbor, pairs_in, items_in, bytes_in}
-use Rattle.cbor_view.specs.Tree.{Tree, int_of, text_of}
+use Rattle.cbor_view.specs.Tree.{int_of, text_of}
 use Rattle.cbor_maps.specs.Labels.{labelled}
 use Rattle.cbor_maps.specs.Reading.{map_in}
 use Rattle.cose_msgs.specs.declared.cose_fault.CoseFault.{CoseFault}

@@ -1,5 +1,5 @@
 -- What contracts see of a message that was read.
-use Rattle.std.specs.Prelude.{ℕ, List, Option, option_map, IfSome}
+use Rattle.std.specs.Prelude.{ℕ, List, option_map, IfSome}
 use Rattle.std.specs.Borrow.{Bor}
 use Rattle.cbor_view.specs.View.{part}
 use Rattle.cbor_maps.specs.Contents.{IsPart}

@@ -1,11 +1,10 @@
 -- Keys and messages as they are written, untagged, every head as short as it can be (RFC 9052, sections 4.2, 6.2
 -- and 7).
-use Rattle.std.specs.Prelude.{ℕ, ◌≡◌, ◌<◌, ◌^◌, pos, negsuc, List, [], ◌∷◌, length, Option, Some, None, option_map, Result, Ok}
+use Rattle.std.specs.Prelude.{ℕ, ◌≡◌, pos, negsuc, List, [], ◌∷◌, Option, Some, None, option_map, Result, Ok}
 use Rattle.cbor_view.specs.Parts.{Part, cbor}
 use Rattle.cbor_view.specs.Shortest.{array_bytes, bytes_bytes, int_bytes, null_bytes, uint_bytes}
 use Rattle.cbor_maps.specs.Labels.{labelled_map}
 use Rattle.key_device.specs.declared.point.Point.{Point}
-use Rattle.cose_msgs.specs.Message.{Signed, Authenticated}
 
 -- {1: 2, -1: 1, -2: x, -3: y}
 unfoldable pub key_bytes : Point → List ℕ

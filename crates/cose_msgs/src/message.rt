@@ -26,13 +26,7 @@ fn untagged(item: View<'_>, tag: u64) -> View<'_>
     ensures { part result ≡ untagged tag (part item.entry) }
 {
     match item.tag() {
-        Some((own, inner)) => {
-            if own == tag {
-                inner
-            } else {
-                item
-            }
-        }
+        Some((own, inner)) => { if own == tag { inner } else { item } }
         None => item,
     }
 }

@@ -1,8 +1,10 @@
 //! Writing of keys and messages.
 
 ghost use Rattle.std.specs.Prelude.{◌≡◌, ◌++◌, OnErr, IfOk, OnOk, IfSome, ◌<◌, ◌^◌, length, option_map, None, Ok};
+ghost use Rattle.cose_msgs.specs.Key.{key_of};
+ghost use Rattle.cose_msgs.specs.Message.{mac0, sign1};
 ghost use Rattle.cose_msgs.specs.MessageView.{content};
-ghost use Rattle.cose_msgs.specs.Written.{chain_map, key_bytes, mac0_bytes, payload_bytes, sign1_bytes};
+ghost use Rattle.cose_msgs.specs.Written.{IsReadAs, chain_map, es256, hmac256, key_bytes, mac0_bytes, payload_bytes, sign1_bytes};
 
 use cbor_maps::MapBuild;
 use cbor_write::Build;
@@ -23,6 +25,7 @@ const CHAIN: i64 = 33;
 #[tactic(auto, unfolding(crate::specs::Written::key_bytes))]
 pub fn write_key(alloc: Global, point: &Point) -> Result<Octets, Memory>
     ensures written { IfOk result (λ b. b ≡ key_bytes point.now) }
+    ensures read { IfOk result (λ b. IsReadAs key_of b point.now) }
 {
     let map = MapBuild::new(alloc, 4)?
         .labelled_uint(1, 2)?
@@ -72,6 +75,7 @@ pub fn write_sign1(
     signature: &[u8; 64],
 ) -> Result<Octets, Memory>
     ensures written { IfOk result (λ b. b ≡ sign1_bytes (option_map content chain.entry) (option_map content payload.entry) signature.now) }
+    ensures read { IfOk result (λ b. IsReadAs sign1 b (record { protected = es256; chain = option_map content chain.entry; payload = option_map content payload.entry; signature = signature.now })) }
 {
     let unprotected = write_chain(alloc, chain)?;
     let mut out = Build::new(alloc);
@@ -87,6 +91,7 @@ pub fn write_sign1(
 #[tactic(auto, using(crate::proofs::FourParts::four_parts), unfolding(crate::specs::Written::mac0_bytes, crate::specs::Written::hmac256, crate::specs::Written::chain_map, cbor_maps::specs::Labels::label_bytes, cbor_maps::specs::Writing::map_head))]
 pub fn write_mac0(alloc: Global, tag: &[u8; 32]) -> Result<Octets, Memory>
     ensures written { IfOk result (λ b. b ≡ mac0_bytes tag.now) }
+    ensures read { IfOk result (λ b. IsReadAs mac0 b (record { protected = hmac256; payload = None; tag = tag.now })) }
 {
     let mut out = Build::new(alloc);
     out.array(4)?;

@@ -1,4 +1,4 @@
-use Rattle.std.proofs.Common.{sym, subst, ◌≡◌, List, ℕ}
+use Rattle.std.proofs.Common.{sym, subst, List, ℕ}
 use Rattle.std.specs.Prelude.{option_map}
 use Rattle.cbor_view.specs.View.{part}
 use Rattle.cbor_maps.specs.Contents.{IsPart}
