@@ -35,7 +35,7 @@ bits-cat (suc m) j a b low =
     (ap₂ (λ (v : ℕ) (vs : List ℕ). v ∷ vs)
     (bit_at_cat_high a j b (m + j) low (omega arith) ∙ ap (bit_at a) place) (bits-cat m j a b low))
 
--- the number that bytes spell, the highest first, behind n
+-- the number that bytes spell, the highest first, after n
 abbrev pub horner : ℕ → List ℕ → ℕ
 horner n [] = n
 horner n (b ∷ bs) = horner (n * 256 + b) bs

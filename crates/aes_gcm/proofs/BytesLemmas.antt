@@ -44,16 +44,6 @@ xored-append (x ∷ xs) ys [] vs same = absurd (omega arith)
 xored-append (x ∷ xs) ys (u ∷ us) vs same =
     ap (λ (ws : List ℕ). bit_xor x u ∷ ws) (xored-append xs ys us vs (omega arith))
 
--- what lies past the shorter list plays no part
-pub xored-take : (xs ys : List ℕ) (n : ℕ) → length ys ≤ n → xored (take n xs) ys ≡ xored xs ys
-xored-take [] ys zero room = refl
-xored-take [] ys (suc n) room = refl
-xored-take (x ∷ xs) [] zero room = refl
-xored-take (x ∷ xs) [] (suc n) room = refl
-xored-take (x ∷ xs) (y ∷ ys) zero room = absurd (omega arith)
-xored-take (x ∷ xs) (y ∷ ys) (suc n) room =
-    ap (λ (ws : List ℕ). bit_xor x y ∷ ws) (xored-take xs ys n (omega arith))
-
 -- ---- a loop that XORs a list onto another, element by element
 
 pub get_or-xored_part : (xs ys : List ℕ) (k : ℕ) → k < length xs → k < length ys

@@ -94,7 +94,7 @@ not_true false not = refl
 test_false : (xs ys : List ℕ) → xs ≢ ys → bytes_eq xs ys ≡ false
 test_false xs ys other = not_true (bytes_eq xs ys) (λ t. other ((bytes_eq-Decides xs ys).0 t))
 
--- a ciphertext and a tag behind it open where the tag is that of the ciphertext
+-- a ciphertext and a tag after it open where the tag is that of the ciphertext
 opened-is : (key iv cipher tag : List ℕ) → length tag ≡ 16
     → opened key iv (cipher ++ tag)
     ≡ cond (bytes_eq tag (tag_of key iv cipher)) (Some (encrypted key iv cipher)) None

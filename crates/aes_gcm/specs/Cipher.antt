@@ -2,7 +2,7 @@
 use Rattle.std.specs.Prelude.{ℕ, zero, suc, ◌+◌, ◌-◌, ◌*◌, ◌/◌, ◌%◌, ◌==◌, if◌then◌else◌, List, [], ◌∷◌, ◌++◌, take, drop, bit_xor, slice_index}
 use Rattle.aes_gcm.specs.Field.{power_of_x, product, sbox}
 
--- the byte of a state at a row and a column: the columns stand one behind the other (section 3.4)
+-- the byte of a state at a row and a column: the columns follow one another (section 3.4)
 abbrev pub state_at : List ℕ → ℕ → ℕ → ℕ
 state_at state row column = slice_index state (row + 4 * column)
 
@@ -34,7 +34,7 @@ unfoldable pub add_round_key : List ℕ → List ℕ → List ℕ
 add_round_key state round_key =
     state_of (λ r c. bit_xor (state_at state r c) (state_at round_key r c))
 
--- word i of the words that stand one behind the other, four bytes each
+-- word i of the words that follow one another, four bytes each
 abbrev pub word_at : List ℕ → ℕ → List ℕ
 word_at words i =
     slice_index words (4 * i) ∷ slice_index words (4 * i + 1) ∷ slice_index words (4 * i + 2)

@@ -14,7 +14,7 @@ unfoldable pub bits_of : List ℕ → List ℕ
 bits_of [] = []
 bits_of (byte ∷ bytes) = bits 8 byte ++ bits_of bytes
 
--- the number whose bits these are, the highest first, behind the bits of n
+-- the number whose bits these are, the highest first, after the bits of n
 abbrev pub number_from : ℕ → List ℕ → ℕ
 number_from n [] = n
 number_from n (bit ∷ rest) = number_from (2 * n + bit) rest

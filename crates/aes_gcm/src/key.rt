@@ -10,7 +10,7 @@ use std::marker::Model;
 /// A key of AES with 256 bits. Contracts see it as the list of its 32 bytes.
 #[derive(Drop)]
 pub struct Key256 {
-    // The key's 32 bytes, and behind them the rest of the expanded key.
+    // The key's 32 bytes, and after them the rest of the expanded key.
     expanded: [u8; EXPANDED_LEN],
 }
 

@@ -19,7 +19,7 @@ pub(crate) fn expanded_key(key: &[u8; 32]) -> [u8; EXPANDED_LEN]
     words
 }
 
-// Writes the words behind the key's eight.
+// Writes the words after the key's eight.
 fn expand(words: &mut [u8])
     requires { length words.old ≡ EXPANDED_LEN }
     ensures { words.new ≡ expanded_key (take 32 words.old) }

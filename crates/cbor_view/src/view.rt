@@ -17,6 +17,9 @@ use crate::key::Key;
 use crate::pairs::Pairs;
 use crate::walk::{skip, walk};
 
+/// The tag of a byte string that holds an encoded item (RFC 8949, section 3.4.5.1).
+pub const ENCODED: u64 = 24;
+
 /// The most levels of nesting that an item may have.
 pub(crate) const MOST_LEVELS: u32 = 32;
 

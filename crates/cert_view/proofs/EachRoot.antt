@@ -1,12 +1,11 @@
--- Reading the lines of a roots file one behind the other, as a loop does.
-use Rattle.std.proofs.Common.{◌≡◌, ℕ, suc, ◌-◌, ◌<◌, ◌≤◌, List, [], ◌∷◌, ◌++◌, length, take, Result, Ok, Err, refl, sym, ap, ◌∙◌, append_assoc, append-nil, arith, length-append, true, false}
+-- Reading the lines of a roots file one after another, as a loop does.
+use Rattle.std.proofs.Common.{◌≡◌, ℕ, suc, ◌-◌, ◌<◌, ◌≤◌, List, [], ◌∷◌, ◌++◌, length, take, Result, Ok, Err, refl, sym, ap, ◌∙◌, append_assoc, arith, length-append, false}
 use Rattle.std.specs.Prelude.{nat_le}
-use Rattle.std.proofs.Math.Seq.{take-nil}
 use Rattle.std.proofs.lemmas.Bool.Decides.{nat_tests}
-use Rattle.mdoc_outside.specs.Lines.{Line, file_lines}
+use Rattle.mdoc_outside.specs.Lines.{Line}
 use Rattle.mdoc_outside.specs.ResultSteps.{◌>>=◌}
 use Rattle.cert_view.specs.RootLine.{Listed}
-use Rattle.cert_view.specs.Roots.{line_root, each_line, within_limit, roots_of, IsRootsFault}
+use Rattle.cert_view.specs.Roots.{line_root, each_line, within_limit, IsRootsFault}
 use Rattle.cert_view.specs.declared.roots_fault.RootsFault.{RootsFault}
 use Rattle.cert_view.specs.declared.roots_fault.RootsFault.TheVariants as faults
 
@@ -17,13 +16,6 @@ with_front front read = read >>= λ rest. Ok (front ++ rest)
 -- with the roots before them, what the lines give: so many of them as there are roots missing to 65
 abbrev pub read_on : List Listed → List Line → Result (List Listed) RootsFault
 read_on front lines = with_front front (each_line (take (65 - length front) lines)) >>= within_limit
-
-same_front : (read : Result (List Listed) RootsFault) → with_front [] read ≡ read
-same_front (Ok rest) = refl
-same_front (Err fault) = refl
-
-pub read_on-start : (text : List ℕ) → read_on [] (file_lines text) ≡ roots_of text
-read_on-start text = ap (λ (r : Result (List Listed) RootsFault). r >>= within_limit) (same_front (each_line (take 65 (file_lines text))))
 
 -- ---- one line more
 
@@ -72,15 +64,6 @@ read_on-full front line lines root said full =
     ∙ over_limit (front ++ root ∷ []) (omega (arith, length-append front (root ∷ [])))
 
 -- ---- no line more
-
-within : (roots : List Listed) → length roots ≤ 64 → within_limit roots ≡ Ok roots
-within roots few =
-    let fits : nat_le (length roots) 64 ≡ true = grind (arith, nat_tests) in
-    rw fits refl
-
-pub read_on-end : (front : List Listed) → length front ≤ 64 → read_on front [] ≡ Ok front
-read_on-end front few =
-    rw (take-nil (65 - length front), append-nil front) (within front few)
 
 -- the fault of a line is that of the reading
 pub read_on-fault : (front : List Listed) (line : Line) (lines : List Line) (fault : RootsFault) →

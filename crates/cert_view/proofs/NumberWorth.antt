@@ -4,7 +4,7 @@ use Rattle.std.specs.Prelude.{nat_lt, nat_le, replicate}
 use Rattle.std.proofs.lemmas.Bool.{eqb-true, leb-true}
 use Rattle.std.proofs.lemmas.List.{length-replicate}
 use Rattle.mdoc_outside.specs.OptionSteps.{◌>>=◌}
-use Rattle.cert_view.specs.Integers.{behind_zero, digits, in_32, number_of, worth}
+use Rattle.cert_view.specs.Integers.{after_zero, digits, in_32, number_of, worth}
 
 abbrev present : List ℕ → Option (List ℕ)
 present x = Some x
@@ -18,7 +18,7 @@ bind_some (Some x) f y e = (x, refl, e)
 
 -- ---- the digits of a number
 
-behind-worth : (bytes found : List ℕ) → behind_zero bytes ≡ Some found → worth found ≡ worth bytes
+behind-worth : (bytes found : List ℕ) → after_zero bytes ≡ Some found → worth found ≡ worth bytes
 behind-worth [] found is = ap worth (sym (same_value [] found is))
 behind-worth (b ∷ bytes) found is = go (nat_lt b 128) is where
   go : (low : Bool) → cond low None (present (b ∷ bytes)) ≡ Some found → worth found ≡ worth (b ∷ bytes)
@@ -31,7 +31,7 @@ zero-worth b bytes none = rw none (omega arith)
 digits-worth : (body found : List ℕ) → digits body ≡ Some found → worth found ≡ worth body
 digits-worth [] found is = absurd cc
 digits-worth (b ∷ bytes) found is = go (b == 0) (nat_lt b 128) refl is where
-  go : (none low : Bool) → (b == 0) ≡ none → cond none (behind_zero bytes) (cond low (present (b ∷ bytes)) None) ≡ Some found → worth found ≡ worth (b ∷ bytes)
+  go : (none low : Bool) → (b == 0) ≡ none → cond none (after_zero bytes) (cond low (present (b ∷ bytes)) None) ≡ Some found → worth found ≡ worth (b ∷ bytes)
   go true low none is = behind-worth bytes found is ∙ sym (zero-worth b bytes (eqb-true b 0 none))
   go false true none is = ap worth (sym (same_value (b ∷ bytes) found is))
   go false false none is = absurd cc

@@ -59,7 +59,7 @@ pub time-length : (text : List ℕ) → (length text ≡ 15 → ⊥) → general
 unfolding generalized_time
 time-length text bad = moment-length (with_signs text) (λ is. bad (length-with_signs text is))
 
--- the signs between the thirteen bytes behind the first two
+-- the signs between the thirteen bytes after the first two
 pub signs-listed : (a b : ℕ) (text : List ℕ) → length text ≡ 13 → a ∷ b ∷ slice_index_or text 0 0 ∷ slice_index_or text 1 0 ∷ 45 ∷ slice_index_or text 2 0 ∷ slice_index_or text 3 0 ∷ 45 ∷ slice_index_or text 4 0 ∷ slice_index_or text 5 0 ∷ 84 ∷ slice_index_or text 6 0 ∷ slice_index_or text 7 0 ∷ 58 ∷ slice_index_or text 8 0 ∷ slice_index_or text 9 0 ∷ 58 ∷ slice_index_or text 10 0 ∷ slice_index_or text 11 0 ∷ slice_index_or text 12 0 ∷ [] ≡ with_signs (a ∷ b ∷ text)
 signs-listed a b [] is = absurd (omega (arith, is))
 signs-listed a b (y ∷ []) is = absurd (omega (arith, is))

@@ -6,7 +6,7 @@ use Rattle.std.proofs.lemmas.Bool.Decides.{nat_tests}
 use Rattle.cert_view.specs.Integers.{digits, number_of}
 use Rattle.cert_view.specs.Written.{without_zeros, sign}
 
--- digits that begin with none but 0 are read behind their sign
+-- digits that begin with none but 0 are read after their sign
 first-read : (byte : ℕ) (bytes : List ℕ) → (byte == 0) ≡ false → digits (sign (byte ∷ bytes) ++ (byte ∷ bytes)) ≡ Some (byte ∷ bytes)
 first-read byte bytes some = go (nat_lt byte 0x80) refl where
   go : (low : Bool) → nat_lt byte 0x80 ≡ low → digits ((if low then [] else 0 ∷ []) ++ (byte ∷ bytes)) ≡ Some (byte ∷ bytes)

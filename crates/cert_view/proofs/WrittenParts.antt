@@ -11,8 +11,8 @@ use Rattle.der_view.proofs.Elements.{first-again, element-reads}
 use Rattle.der_view.proofs.Listing.{tag-read, body-read, parts-step, parts-end}
 use Rattle.cert_view.specs.declared.cert_check.CertCheck.TheVariants.{Shape}
 use Rattle.cert_view.specs.Faults.{fault}
-use Rattle.cert_view.specs.Shapes.{has_tag, tagged, all_read, parts_in, shaped}
-use Rattle.cert_view.specs.Written.{joined}
+use Rattle.cert_view.specs.Shapes.{has_tag, tagged, all_read, parts_in, of_shape}
+use Rattle.cert_view.specs.Written.{concatenated}
 
 abbrev pub place : ℕ → List ℕ → Part
 place at bytes = record { at = at; bytes = bytes }
@@ -37,7 +37,7 @@ has-tag at tag body is = rw (tag-is tag body is) (same-number tag)
 pub tagged-is : (at tag : ℕ) (body : List ℕ) → IsTag tag → tagged tag (place at (element tag body)) ≡ Ok (place at (element tag body))
 tagged-is at tag body is = rw (has-tag at tag body is) refl
 
--- ---- elements one behind the other
+-- ---- elements one after another
 
 pub record IsElem (bytes : List ℕ) : Type 0 where
   pub tag : ℕ
@@ -72,10 +72,10 @@ elem-more : (at : ℕ) (bytes rest : List ℕ) → IsElem bytes → parts_at (pl
 elem-more at bytes rest e =
     subst (λ (b : List ℕ). parts_at (place at (b ++ rest)) ≡ Ok (place at b) ∷ parts_at (place (at + length b) rest)) (sym e.is) (parts-more at e.tag e.body rest e.is_tag)
 
-parts-placed : (at : ℕ) (bs : List (List ℕ)) → AreElems bs → parts_at (place at (joined bs)) ≡ placed at bs
+parts-placed : (at : ℕ) (bs : List (List ℕ)) → AreElems bs → parts_at (place at (concatenated bs)) ≡ placed at bs
 parts-placed at [] are = parts-end (place at []) refl
 parts-placed at (b ∷ bs) are =
-    elem-more at b (joined bs) are.0
+    elem-more at b (concatenated bs) are.0
     ∙ ap (λ (ps : List (Result Part DerFault)). Ok (place at b) ∷ ps) (parts-placed (at + length b) bs are.1)
 
 read-placed : (at : ℕ) (bs : List (List ℕ)) → all_read (placed at bs) ≡ Ok tt
@@ -85,20 +85,20 @@ read-placed at (b ∷ bs) = read-placed (at + length b) bs
 -- ---- the elements in one
 
 -- where the first of them stands
-abbrev pub behind_head : ℕ → ℕ → List ℕ → ℕ
-behind_head at tag body = at + (length (element tag body) - length body)
+abbrev pub after_head : ℕ → ℕ → List ℕ → ℕ
+after_head at tag body = at + (length (element tag body) - length body)
 
-pub parts-in : (at tag : ℕ) (bs : List (List ℕ)) → IsTag tag → AreElems bs → parts_of (place at (element tag (joined bs))) ≡ placed (behind_head at tag (joined bs)) bs
+pub parts-in : (at tag : ℕ) (bs : List (List ℕ)) → IsTag tag → AreElems bs → parts_of (place at (element tag (concatenated bs))) ≡ placed (after_head at tag (concatenated bs)) bs
 parts-in at tag bs is are =
-    let body = joined bs in
+    let body = concatenated bs in
     ap (λ (b : List ℕ). parts_at (place (at + (length (element tag body) - length b)) b)) (body-is tag body is)
-    ∙ parts-placed (behind_head at tag body) bs are
+    ∙ parts-placed (after_head at tag body) bs are
 
-pub parts-read : (at tag : ℕ) (bs : List (List ℕ)) → IsTag tag → AreElems bs → parts_in tag (place at (element tag (joined bs))) ≡ Ok (placed (behind_head at tag (joined bs)) bs)
+pub parts-read : (at tag : ℕ) (bs : List (List ℕ)) → IsTag tag → AreElems bs → parts_in tag (place at (element tag (concatenated bs))) ≡ Ok (placed (after_head at tag (concatenated bs)) bs)
 parts-read at tag bs is are =
-    rw (has-tag at tag (joined bs) is)
+    rw (has-tag at tag (concatenated bs) is)
     (rw (parts-in at tag bs is are)
-    (rw (read-placed (behind_head at tag (joined bs)) bs) refl))
+    (rw (read-placed (after_head at tag (concatenated bs)) bs) refl))
 
-pub shaped-is : {A : Type 0} (shape : List (Result Part DerFault) → Option A) (at tag : ℕ) (bs : List (List ℕ)) → IsTag tag → AreElems bs → shaped shape tag (place at (element tag (joined bs))) ≡ or_fault (fault Shape at) (shape (placed (behind_head at tag (joined bs)) bs))
-shaped-is shape at tag bs is are = rw (parts-read at tag bs is are) refl
+pub of_shape-is : {A : Type 0} (shape : List (Result Part DerFault) → Option A) (at tag : ℕ) (bs : List (List ℕ)) → IsTag tag → AreElems bs → of_shape shape tag (place at (element tag (concatenated bs))) ≡ or_fault (fault Shape at) (shape (placed (after_head at tag (concatenated bs)) bs))
+of_shape-is shape at tag bs is are = rw (parts-read at tag bs is are) refl

@@ -1,11 +1,11 @@
 -- What contracts see of a certificate.
-use Rattle.cert_view.specs.Signed.{Signed}
+use Rattle.cert_view.specs.Tbs.{Tbs}
 use Rattle.cert_view.specs.Certificate.{Fields}
-use Rattle.cert_view.specs.declared.signed.SignedFields.{SignedFields}
+use Rattle.cert_view.specs.declared.tbs.TbsFields.{TbsFields}
 use Rattle.cert_view.specs.declared.cert.Cert.{Cert}
 
-abbrev pub signed_fields : SignedFields → Signed
-signed_fields s = record {
+abbrev pub tbs_fields : TbsFields → Tbs
+tbs_fields s = record {
   issuer = s.issuer.now;
   subject = s.subject.now;
   not_before = s.not_before;
@@ -15,4 +15,4 @@ signed_fields s = record {
 }
 
 abbrev pub fields : Cert → Fields
-fields c = record { signed = signed_fields c.signed; message = c.message.now; signature = c.signature }
+fields c = record { tbs = tbs_fields c.tbs; message = c.message.now; signature = c.signature }

@@ -8,12 +8,12 @@ use Rattle.der_view.specs.Reading.{body_of}
 use Rattle.cert_view.specs.declared.cert_check.CertCheck.TheVariants.{Signature}
 use Rattle.cert_view.specs.declared.cert_fault.CertFault.{CertFault}
 use Rattle.cert_view.specs.Faults.{fault, both}
-use Rattle.cert_view.specs.Shapes.{element_of, tagged, three, shaped}
+use Rattle.cert_view.specs.Shapes.{element_of, tagged, three, of_shape}
 use Rattle.cert_view.specs.Signatures.{signature_of}
-use Rattle.cert_view.specs.Signed.{Signed, algorithm, to_be_signed}
+use Rattle.cert_view.specs.Tbs.{Tbs, algorithm, to_be_signed}
 
 pub record Fields : Type 0 where
-  pub signed : Signed
+  pub tbs : Tbs
   -- the bytes of the to-be-signed part
   pub message : List ℕ
   -- r and s, each in 32 bytes
@@ -28,10 +28,10 @@ signature p = do
 abbrev pub fields_in : Part × Part × Part → Result Fields CertFault
 fields_in x = do
   y ← both (to_be_signed x.0) (both (algorithm x.1) (signature x.2))
-  Ok (record { signed = y.0; message = x.0.bytes; signature = y.1.1 })
+  Ok (record { tbs = y.0; message = x.0.bytes; signature = y.1.1 })
 
 unfoldable pub certificate : List ℕ → Result Fields CertFault
 certificate bytes = do
   p ← element_of bytes
-  x ← shaped three 0x30 p
+  x ← of_shape three 0x30 p
   fields_in x

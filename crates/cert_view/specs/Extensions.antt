@@ -35,15 +35,15 @@ purposes value = inner_parts 0x30 value >>? λ ids.
     if list_all is_identifier ids then Some (list_any is_document_signer ids) else None
 
 -- without the part in front, where it has that tag
-abbrev pub behind_optional : ℕ → List (Result Part DerFault) → List (Result Part DerFault)
-behind_optional tag [] = []
-behind_optional tag ((Ok p) ∷ ps) = if has_tag tag p then ps else (Ok p) ∷ ps
-behind_optional tag ((Err found) ∷ ps) = (Err found) ∷ ps
+abbrev pub after_optional : ℕ → List (Result Part DerFault) → List (Result Part DerFault)
+after_optional tag [] = []
+after_optional tag ((Ok p) ∷ ps) = if has_tag tag p then ps else (Ok p) ∷ ps
+after_optional tag ((Err found) ∷ ps) = (Err found) ∷ ps
 
 -- an identifier, a BOOLEAN or none, and an OCTET STRING
 abbrev pub named_value : List (Result Part DerFault) → Option (Part × Part)
 named_value parts =
-    front parts >>? λ a. front (behind_optional 0x01 a.1) >>? λ b. at_end (a.0, b.0) b.1 >>? λ x.
+    front parts >>? λ a. front (after_optional 0x01 a.1) >>? λ b. at_end (a.0, b.0) b.1 >>? λ x.
     if has_tag 0x06 x.0 && has_tag 0x04 x.1 then Some x else None
 
 -- what an extension says of the purposes: nothing, where it is another one

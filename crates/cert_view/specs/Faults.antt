@@ -1,4 +1,4 @@
--- Of the checks that fail the first is told, and the first place where it does.
+-- Of the checks that fail the first is reported, and the first place where it does.
 use Rattle.std.specs.Prelude.{ℕ, Bool, ◌==◌, ◌&&◌, ◌||◌, nat_lt, if◌then◌else◌, Result, Ok, Err}
 use Rattle.cert_view.specs.declared.cert_check.CertCheck.{CertCheck}
 use Rattle.cert_view.specs.declared.cert_check.CertCheck.TheVariants.{Der, Shape, VersionNot3, Algorithm, Time, KeyKind, Signature, Extension}

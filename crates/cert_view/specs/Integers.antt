@@ -4,16 +4,16 @@ use Rattle.std.specs.Prelude.{ℕ, ◌+◌, ◌*◌, ◌^◌, ◌-◌, ◌==◌,
 use Rattle.mdoc_outside.specs.OptionSteps.{◌>>=◌}
 
 -- Behind a byte 0 in front stands nothing, for the number 0, or a byte whose highest bit is set.
-abbrev pub behind_zero : List ℕ → Option (List ℕ)
-behind_zero [] = Some []
-behind_zero (b ∷ bytes) = if nat_lt b 0x80 then None else Some (b ∷ bytes)
+abbrev pub after_zero : List ℕ → Option (List ℕ)
+after_zero [] = Some []
+after_zero (b ∷ bytes) = if nat_lt b 0x80 then None else Some (b ∷ bytes)
 
 -- the digits of a number, to the base 256 and without zeros in front; none where it is negative or has more
 -- bytes than it needs
 abbrev pub digits : List ℕ → Option (List ℕ)
 digits [] = None
 digits (b ∷ bytes) =
-    if b == 0 then behind_zero bytes else if nat_lt b 0x80 then Some (b ∷ bytes) else None
+    if b == 0 then after_zero bytes else if nat_lt b 0x80 then Some (b ∷ bytes) else None
 
 -- digits in 32 bytes, where they are no more
 abbrev pub in_32 : List ℕ → Option (List ℕ)

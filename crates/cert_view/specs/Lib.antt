@@ -10,8 +10,8 @@ pub mod RootLine
 pub mod Roots
 pub mod Shapes
 pub mod Signatures
-pub mod Signed
-pub mod SignedParts
+pub mod Tbs
+pub mod TbsParts
 pub mod Slices
 pub mod Times
 pub mod Written

@@ -23,7 +23,7 @@ abbrev pub within_limit : List Listed → Result (List Listed) RootsFault
 within_limit roots = if nat_le (length roots) 64 then Ok roots else Err (faults.TooMany 65)
 
 -- The roots that a text lists, else the first bad line, unless a 65th root stands before it. Each line that
--- is not passed over lists a root or is bad, so that the 65th of the lines decides.
+-- is not ignored lists a root or is bad, so that the 65th of the lines decides.
 abbrev pub roots_of : List ℕ → Result (List Listed) RootsFault
 roots_of text = each_line (take 65 (file_lines text)) >>= within_limit
 

@@ -36,7 +36,7 @@ parts_in tag p = do
   read ← all_read (parts_of q)
   Ok (parts_of q)
 
--- the first part, and those behind it
+-- the first part, and those after it
 abbrev pub front : List (Result Part DerFault) → Option (Part × List (Result Part DerFault))
 front ((Ok p) ∷ ps) = Some (p, ps)
 front parts = None
@@ -60,7 +60,7 @@ abbrev pub three : List (Result Part DerFault) → Option (Part × Part × Part)
 three parts = front parts >>? λ a. front a.1 >>? λ b. front b.1 >>? λ c. at_end (a.0, b.0, c.0) c.1
 
 -- the parts of an element of that tag, as many as they are to be
-abbrev pub shaped : {A : Type 0} → (List (Result Part DerFault) → Option A) → ℕ → Part → Result A CertFault
-shaped shape tag p = do
+abbrev pub of_shape : {A : Type 0} → (List (Result Part DerFault) → Option A) → ℕ → Part → Result A CertFault
+of_shape shape tag p = do
   parts ← parts_in tag p
   or_fault (fault Shape p.at) (shape parts)

@@ -6,7 +6,7 @@ use Rattle.der_view.specs.Element.{element}
 use Rattle.key_device.specs.declared.point.Point.{Point}
 use Rattle.mdl_table.specs.MomentText.{text_of}
 use Rattle.cert_view.specs.Extensions.{extended_key_usage, document_signer}
-use Rattle.cert_view.specs.Signed.{ecdsa_with_sha256, ec_public_key, secp256r1}
+use Rattle.cert_view.specs.Tbs.{ecdsa_with_sha256, ec_public_key, secp256r1}
 use Rattle.cert_view.specs.declared.cert_draft.CertDraft.{CertDraft}
 
 -- ---- what a draft holds
@@ -35,13 +35,13 @@ pub record IsWritable (draft : CertDraft) : Type 0 where
 
 -- ---- elements of elements
 
--- bytes one behind the other
-abbrev pub joined : List (List ℕ) → List ℕ
-joined [] = []
-joined (part ∷ parts) = part ++ joined parts
+-- bytes one after another
+abbrev pub concatenated : List (List ℕ) → List ℕ
+concatenated [] = []
+concatenated (part ∷ parts) = part ++ concatenated parts
 
 abbrev pub sequence : List (List ℕ) → List ℕ
-sequence parts = element 0x30 (joined parts)
+sequence parts = element 0x30 (concatenated parts)
 
 abbrev pub identifier : List ℕ → List ℕ
 identifier name = element 0x06 name

@@ -14,7 +14,7 @@ pub record IsDraft (draft : CertDraft) : Type 0 where
 -- what a draft with a signature says
 abbrev pub fields_of : CertDraft → List ℕ → Fields
 fields_of draft pair = record {
-  signed = record {
+  tbs = record {
     issuer = name draft.issuer;
     subject = name draft.subject;
     not_before = draft.from;

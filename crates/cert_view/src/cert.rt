@@ -12,7 +12,7 @@ use crate::first_fault::both;
 use crate::root::Root;
 use crate::shapes::{element_of, fault_at, tagged, three_in};
 use crate::signatures::signature_of;
-use crate::signed::{SignedFields, algorithm, to_be_signed};
+use crate::tbs::{TbsFields, algorithm, to_be_signed};
 use crate::verify_ask::VerifyAsk;
 use der_view::Der;
 use key_device::Point;
@@ -21,7 +21,7 @@ use key_device::Point;
 /// is a point of the curve P-256, and it is signed with ECDSA and SHA-256.
 #[derive(Clone, Copy)]
 pub struct Cert<'a> {
-    pub(crate) signed: SignedFields<'a>,
+    pub(crate) tbs: TbsFields<'a>,
     pub(crate) message: &'a [u8],
     pub(crate) signature: [u8; 64],
 }
@@ -43,10 +43,10 @@ fn cert_of<'a>(first: Der<'a>, second: Der<'a>, third: Der<'a>) -> Result<Cert<'
 {
     let others = both(algorithm(second), signature(third));
     match both(to_be_signed(first), others) {
-        Ok((signed, marks)) => {
+        Ok((tbs, marks)) => {
             let signature = marks.1;
             Ok(Cert {
-                signed,
+                tbs,
                 message: first.raw(),
                 signature,
             })
@@ -70,52 +70,52 @@ impl<'a> Cert<'a> {
 
     /// The bytes of the subject's name.
     pub fn subject(&self) -> &'a [u8]
-        ensures { result.now ≡ (fields self.now).signed.subject }
+        ensures { result.now ≡ (fields self.now).tbs.subject }
     {
-        self.signed.subject
+        self.tbs.subject
     }
 
     /// The bytes of the issuer's name.
     pub fn issuer(&self) -> &'a [u8]
-        ensures { result.now ≡ (fields self.now).signed.issuer }
+        ensures { result.now ≡ (fields self.now).tbs.issuer }
     {
-        self.signed.issuer
+        self.tbs.issuer
     }
 
     /// The subject's public key.
     pub fn key(&self) -> &Point
-        ensures { result.now ≡ (fields self.now).signed.key }
+        ensures { result.now ≡ (fields self.now).tbs.key }
     {
-        &self.signed.key
+        &self.tbs.key
     }
 
     /// The first second of the validity, in seconds since 1970.
     pub fn not_before(&self) -> i64
-        ensures { result ≡ (fields self.now).signed.not_before }
+        ensures { result ≡ (fields self.now).tbs.not_before }
     {
-        self.signed.not_before
+        self.tbs.not_before
     }
 
     /// The last second of the validity, in seconds since 1970.
     pub fn not_after(&self) -> i64
-        ensures { result ≡ (fields self.now).signed.not_after }
+        ensures { result ≡ (fields self.now).tbs.not_after }
     {
-        self.signed.not_after
+        self.tbs.not_after
     }
 
     /// Whether the extended key usage holds the purpose of a document signer (ISO/IEC 18013-5,
     /// annex B).
     pub fn signs_documents(&self) -> bool
-        ensures { result ≡ (fields self.now).signed.signs_documents }
+        ensures { result ≡ (fields self.now).tbs.signs_documents }
     {
-        self.signed.signs_documents
+        self.tbs.signs_documents
     }
 
     /// The question whether a root signed the certificate: the root's key, the to-be-signed part as
     /// it stands, and the signature.
     pub fn asks(&self, root: &Root) -> VerifyAsk<'a>
         ensures public { (f : Fields) → certificate (listed root.now).bytes ≡ Ok f
-            → result.public ≡ f.signed.key }
+            → result.public ≡ f.tbs.key }
         ensures message { result.message.now ≡ (fields self.now).message }
         ensures signature { result.signature ≡ (fields self.now).signature }
     {

@@ -1,6 +1,6 @@
 //! What can be wrong with bytes that are to be a certificate.
 
-/// The checks of a certificate, in the order in which they are made: the first that fails is told.
+/// The checks of a certificate, in the order in which they are made: the first that fails is reported.
 #[derive(Clone, Copy, Debug, PartialEq, Eq)]
 pub enum CertCheck {
     /// An element does not read, or bytes follow (X.690).

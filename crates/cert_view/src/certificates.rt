@@ -6,7 +6,7 @@ use std::alloc::Global;
 use std::test::*;
 
 /// A certificate: places are offsets in its bytes, and spans are from the first byte up to the first
-/// behind.
+/// after.
 #[derive(Clone, Copy)]
 struct Certificate {
     digits: &'static str,
@@ -229,7 +229,7 @@ const REFUSED: [Refused; 3] = [
         check: CertCheck::VersionNot3,
         at: 9,
     },
-    // version 1, which is left out
+    // no version
     Refused {
         digits: "\
             308201063081ac020107300a06082a8648ce3d040302300f310d300b06035504030c04726f6f74301e170d32\
@@ -239,7 +239,7 @@ const REFUSED: [Refused; 3] = [
             9d6cb2300a06082a8648ce3d0403020349003046022100d4e350e738384a7425db326df375fbff2a7d6152db\
             19ea99209d390a4fa0d1db022100fd316e690a751f8014c023b7725762a5479aaf98487683e3165f82b4174f\
             8c4e",
-        check: CertCheck::VersionNot3,
+        check: CertCheck::Shape,
         at: 4,
     },
 ];
@@ -335,7 +335,7 @@ fn reads_whatever_bytes_come(rt: HostRuntime) -> Result<(), Fail> {
     Ok(())
 }
 
-/// What stands in front of a certificate's digits and behind them, and the fault of that file, if it
+/// What stands in front of a certificate's digits and after them, and the fault of that file, if it
 /// has one.
 const FILES: [(&[u8], &[u8], Option<RootsFault>); 19] = [
     (b"root issuer ", b"", None),

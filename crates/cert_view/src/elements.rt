@@ -3,7 +3,7 @@
 ghost use Rattle.std.specs.Prelude.{◌≡◌, ◌++◌, length, IfOk, OnOk};
 ghost use Rattle.der_view.specs.Element.{length_bytes, element};
 ghost use Rattle.cert_view.specs.Slices.{slices};
-ghost use Rattle.cert_view.specs.Written.{joined, without_zeros, sign, integer, sequence};
+ghost use Rattle.cert_view.specs.Written.{concatenated, without_zeros, sign, integer, sequence};
 
 use mdoc_outside::Memory;
 use std::alloc::Global;
@@ -33,9 +33,9 @@ fn put_length(out: &mut Vec<u8>, length: usize) -> Result<(), Memory>
     Ok(())
 }
 
-/// The parts one behind the other.
-fn joined(alloc: Global, parts: &[&[u8]]) -> Result<Vec<u8>, Memory>
-    ensures { IfOk result (λ bytes. bytes.items ≡ joined (slices parts.now)) }
+/// The parts one after another.
+fn concatenated(alloc: Global, parts: &[&[u8]]) -> Result<Vec<u8>, Memory>
+    ensures { IfOk result (λ bytes. bytes.items ≡ concatenated (slices parts.now)) }
 {
     let mut bytes = Vec::new(alloc);
     for part in parts {
@@ -44,11 +44,11 @@ fn joined(alloc: Global, parts: &[&[u8]]) -> Result<Vec<u8>, Memory>
     Ok(bytes)
 }
 
-/// An element whose body are the parts one behind the other.
+/// An element whose body are the parts one after another.
 pub(crate) fn element(alloc: Global, tag: u8, parts: &[&[u8]]) -> Result<Vec<u8>, Memory>
-    ensures { IfOk result (λ bytes. bytes.items ≡ element tag (joined (slices parts.now))) }
+    ensures { IfOk result (λ bytes. bytes.items ≡ element tag (concatenated (slices parts.now))) }
 {
-    let body = joined(alloc, parts)?;
+    let body = concatenated(alloc, parts)?;
     let mut bytes = Vec::new(alloc);
     bytes.push(tag)?;
     put_length(&mut bytes, body.len())?;

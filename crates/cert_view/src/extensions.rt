@@ -5,7 +5,7 @@ ghost use Rattle.std.specs.List.{list_all, list_any};
 ghost use Rattle.std.specs.Str.{bytes_eq};
 ghost use Rattle.der_view.specs.Der.{part, seen};
 ghost use Rattle.der_view.specs.PartsLeft.{left};
-ghost use Rattle.cert_view.specs.Extensions.{is_identifier, is_document_signer, purposes, behind_optional, named_value, said_purposes, said_by_parts, extension, said_once, with_extension, with_extensions};
+ghost use Rattle.cert_view.specs.Extensions.{is_identifier, is_document_signer, purposes, after_optional, named_value, said_purposes, said_by_parts, extension, said_once, with_extension, with_extensions};
 
 use crate::cert_check::CertCheck;
 use crate::cert_fault::CertFault;
@@ -72,9 +72,9 @@ fn purposes(value: &[u8]) -> Option<bool>
     }
 }
 
-/// The parts behind the one in front, where it has that tag, else all.
-pub(crate) fn behind_optional(tag: u8, parts: Parts<'_>) -> Parts<'_>
-    ensures { left result ≡ behind_optional tag (left parts.entry) }
+/// The parts after the one in front, where it has that tag, else all.
+pub(crate) fn after_optional(tag: u8, parts: Parts<'_>) -> Parts<'_>
+    ensures { left result ≡ after_optional tag (left parts.entry) }
 {
     match front(parts) {
         Some((first, rest)) if has_tag(tag, first) => rest,
@@ -88,7 +88,7 @@ fn named_value<'a>(parts: Parts<'a>) -> Option<(Der<'a>, Der<'a>)>
     ensures { option_map (λ x. (part x.0, part x.1)) result ≡ named_value (left parts.entry) }
 {
     let (name, rest) = front(parts)?;
-    let (value, rest) = front(behind_optional(0x01, rest))?;
+    let (value, rest) = front(after_optional(0x01, rest))?;
     if is_empty(rest) && has_tag(0x06, name) && has_tag(0x04, value) {
         Some((name, value))
     } else {

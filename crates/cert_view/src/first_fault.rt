@@ -1,4 +1,4 @@
-//! Which of two faults is told.
+//! Which of two faults is reported.
 
 ghost use Rattle.std.specs.Prelude.{◌≡◌};
 ghost use Rattle.cert_view.specs.Faults.{rank, is_before, first_of, both};

@@ -1,11 +1,11 @@
 //! Numbers by the body of an INTEGER (X.690, 8.3).
 
 ghost use Rattle.std.specs.Prelude.{◌≡◌, ◌≤◌, length, option_map};
-ghost use Rattle.cert_view.specs.Integers.{behind_zero, digits, in_32, number_of};
+ghost use Rattle.cert_view.specs.Integers.{after_zero, digits, in_32, number_of};
 
-/// What stands behind a byte 0 in front: nothing, or a byte whose highest bit is set.
-fn behind_zero(bytes: &[u8]) -> Option<&[u8]>
-    ensures { option_map (λ d. d.now) result ≡ behind_zero bytes.now }
+/// What follows a byte 0 in front: nothing, or a byte whose highest bit is set.
+fn after_zero(bytes: &[u8]) -> Option<&[u8]>
+    ensures { option_map (λ d. d.now) result ≡ after_zero bytes.now }
 {
     match bytes {
         [] => Some(bytes),
@@ -20,7 +20,7 @@ fn digits(body: &[u8]) -> Option<&[u8]>
 {
     match body {
         [] => None,
-        [first, rest @ ..] if *first == 0 => behind_zero(rest),
+        [first, rest @ ..] if *first == 0 => after_zero(rest),
         [first, ..] if *first < 0x80 => Some(body),
         _ => None,
     }

@@ -5,7 +5,7 @@ ghost use Rattle.der_view.specs.Der.{part};
 ghost use Rattle.der_view.specs.PartsLeft.{left};
 ghost use Rattle.der_view.specs.Reading.{Gives};
 ghost use Rattle.cert_view.specs.Faults.{fault};
-ghost use Rattle.cert_view.specs.Shapes.{element_of, has_tag, tagged, all_read, parts_in, front, is_empty, one, two, three, shaped};
+ghost use Rattle.cert_view.specs.Shapes.{element_of, has_tag, tagged, all_read, parts_in, front, is_empty, one, two, three, of_shape};
 
 use crate::cert_check::CertCheck;
 use crate::cert_fault::CertFault;
@@ -75,7 +75,7 @@ pub(crate) fn parts_in(tag: u8, element: Der<'_>) -> Result<Parts<'_>, CertFault
     Ok(element.parts())
 }
 
-/// The first part, and those behind it.
+/// The first part, and those after it.
 pub(crate) fn front<'a>(parts: Parts<'a>) -> Option<(Der<'a>, Parts<'a>)>
     ensures { option_map (λ x. (part x.0, left x.1)) result ≡ front (left parts.entry) }
 {
@@ -132,7 +132,7 @@ fn three<'a>(parts: Parts<'a>) -> Option<(Der<'a>, Der<'a>, Der<'a>)>
 
 /// The only part of an element of that tag.
 pub(crate) fn one_in(tag: u8, element: Der<'_>) -> Result<Der<'_>, CertFault>
-    ensures { Gives part result (shaped one tag (part element.entry)) }
+    ensures { Gives part result (of_shape one tag (part element.entry)) }
 {
     match one(parts_in(tag, element)?) {
         Some(found) => Ok(found),
@@ -142,7 +142,7 @@ pub(crate) fn one_in(tag: u8, element: Der<'_>) -> Result<Der<'_>, CertFault>
 
 /// The two parts of an element of that tag.
 pub(crate) fn two_in<'a>(tag: u8, element: Der<'a>) -> Result<(Der<'a>, Der<'a>), CertFault>
-    ensures { Gives (λ x. (part x.0, part x.1)) result (shaped two tag (part element.entry)) }
+    ensures { Gives (λ x. (part x.0, part x.1)) result (of_shape two tag (part element.entry)) }
 {
     match two(parts_in(tag, element)?) {
         Some(found) => Ok(found),
@@ -155,7 +155,7 @@ pub(crate) fn three_in<'a>(
     tag: u8,
     element: Der<'a>,
 ) -> Result<(Der<'a>, Der<'a>, Der<'a>), CertFault>
-    ensures { Gives (λ x. (part x.0, part x.1, part x.2)) result (shaped three tag (part element.entry)) }
+    ensures { Gives (λ x. (part x.0, part x.1, part x.2)) result (of_shape three tag (part element.entry)) }
 {
     match three(parts_in(tag, element)?) {
         Some(found) => Ok(found),

@@ -11,9 +11,8 @@ fn is_send<T: Send>() {}
 
 fn is_sync<T: Sync>() {}
 
-/// Certificates, what is asked of them, roots and their faults may be handed to another thread, and
-/// shared with it.
-pub fn crosses() {
+/// Certificates, what is asked of them, roots and their faults are Send and Sync.
+pub fn types_are_send_and_sync() {
     is_send::<Cert<'static>>();
     is_sync::<Cert<'static>>();
     is_send::<VerifyAsk<'static>>();

@@ -31,7 +31,7 @@ fn integer(element: Der<'_>) -> Option<[u8; 32]>
     }
 }
 
-fn joined(r: [u8; 32], s: [u8; 32]) -> [u8; 64]
+fn concatenated(r: [u8; 32], s: [u8; 32]) -> [u8; 64]
     ensures { result ≡ r ++ s }
 {
     let mut both = [0; 64];
@@ -47,7 +47,7 @@ fn pair_of(bytes: &[u8]) -> Option<[u8; 64]>
     let (first, second) = two(inner_parts(0x30, bytes)?)?;
     let r = integer(first)?;
     let s = integer(second)?;
-    Some(joined(r, s))
+    Some(concatenated(r, s))
 }
 
 /// r and then s, by the body of a BIT STRING.

@@ -19,7 +19,7 @@ struct Case {
 }
 
 /// What `tests/written_certificates` writes. The keys are the first multiples of the curve's base
-/// point, behind `00` and `04`.
+/// point, after `00` and `04`.
 const CASES: [Case; 3] = [
     Case {
         serial: 1,

@@ -97,7 +97,7 @@ first-sound (t ∷ bytes) tag body rest are e = elim (if-cases (t % 32 == 31) (E
   ]
 ]
 
--- ---- what is told is the first fault
+-- ---- what is reported is the first fault
 
 -- so many bytes of 0
 zeros : ℕ → List ℕ

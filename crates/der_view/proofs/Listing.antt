@@ -1,4 +1,4 @@
--- The element at the front of bytes as a part, and the parts that stand one behind the other.
+-- The element at the front of bytes as a part, and the parts that follow one another.
 use Rattle.std.proofs.Common.{◌≡◌, ℕ, zero, suc, ◌+◌, ◌-◌, ◌%◌, ◌<◌, ◌≤◌, ◌==◌, if◌then◌else◌, List, [], ◌∷◌, ◌++◌, length, take, drop, true, false, Result, Ok, Err, refl, sym, ap, ◌∙◌, subst, arith, inl, inr, IsOk, is_ok}
 use Rattle.std.proofs.lemmas.Bool.{eqb-true, eqb-false}
 use Rattle.std.proofs.lemmas.Bool.Decides.{nat_tests}
@@ -10,7 +10,7 @@ use Rattle.der_view.specs.declared.der_fault.DerFault.{DerFault}
 use Rattle.der_view.specs.Element.{length_bytes, element, IsElement}
 use Rattle.der_view.specs.Fault.{GoesOn, HasFault, IsFault}
 use Rattle.der_view.specs.Reading.{◌>>=◌, length_at, first_at, alone, reads, tag_of, body_of, tag_or_zero, body_or_none}
-use Rattle.der_view.specs.Parts.{Part, behind, AreParts, part_of, der, parted, first_part, with_others, parts_up_to, parts_at}
+use Rattle.der_view.specs.Parts.{Part, behind, AreParts, der, parted, first_part, with_others, parts_up_to, parts_at}
 use Rattle.der_view.proofs.Lengths.{AreBytes, bytes-behind, bytes-before, if-cases, length-shorter}
 use Rattle.der_view.proofs.Elements.{First, found, bind-cases, behind_tag, body-sound, first-sound, first-fault, element-reads}
 
@@ -166,15 +166,6 @@ whole-exact bytes rest q are e l =
     (subst (λ t. IsElement q.bytes t (body_of q.bytes)) (sym (tag-read q.bytes f.tag f.body f.reads_is))
     (subst (λ b. IsElement q.bytes f.tag b) (sym (body-read q.bytes f.tag f.body f.reads_is)) f.is))
 
-pub whole-part : (bytes rest : List ℕ) (q : Part) → AreBytes bytes → first_part (from_start bytes) ≡ parts_ok q rest → length rest < 1 → der bytes ≡ Ok q
-whole-part bytes rest q are e l =
-    let f = front-part (from_start bytes) q rest are e in
-    let n = nothing rest (omega arith) in
-    let same : bytes ≡ q.bytes = f.whole ∙ ap (λ x. q.bytes ++ x) n ∙ append-nil q.bytes in
-    let r : reads bytes ≡ Ok (f.tag, f.body) = ap reads same ∙ f.reads_is in
-    let make : ℕ → List ℕ → Part = λ a b. record { at = a; bytes = b } in
-    ap (part_of bytes) r ∙ ap (λ a. Ok (make a bytes)) (sym f.at) ∙ ap (λ b. Ok (make q.at b)) same
-
 pub goes-on : (bytes rest : List ℕ) (q : Part) → AreBytes bytes → first_part (from_start bytes) ≡ parts_ok q rest → 1 ≤ length rest → GoesOn bytes (length q.bytes)
 goes-on bytes rest q are e l =
     let f = front-part (from_start bytes) q rest are e in
@@ -200,7 +191,7 @@ der-fault bytes fault e =
     let make : ℕ → DerFault = λ a. record { kind = fault.kind; at = a } in
     rw f.first (ap (λ a. Err (make a)) (sym f.at))
 
--- ---- the parts, one behind the other
+-- ---- the parts, one after another
 
 abbrev beyond : Part × List ℕ → Part
 beyond x = record { at = x.0.at + length x.0.bytes; bytes = x.1 }

@@ -6,7 +6,7 @@ use Rattle.std.specs.Prelude.{◌≡◌, ℕ, ◌/◌, ◌%◌, ◌^◌, ◌<◌
 abbrev pub AreBytes : List ℕ → Type 0
 AreBytes bytes = (i : ℕ) → slice_index bytes i < 256
 
--- A byte whose lowest five bits are not all ones: those say that the number stands behind it (8.1.2.4).
+-- A byte whose lowest five bits are not all ones: those say that the number follows it (8.1.2.4).
 abbrev pub IsTag : ℕ → Type 0
 IsTag tag = (tag < 2 ^ 8) × (tag % 32 < 31)
 

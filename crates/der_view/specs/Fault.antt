@@ -16,14 +16,14 @@ pub record EndsEarly (bytes : List ℕ) : Type 0 where
   pub some : IsSome missing
   pub is : IsElement (bytes ++ missing) tag body
 
--- The number of the tag stands behind its first byte (X.690, 8.1.2.4).
+-- The number of the tag follows its first byte (X.690, 8.1.2.4).
 pub record HasHighTag (bytes : List ℕ) : Type 0 where
   pub tag : ℕ
   pub rest : List ℕ
   pub high : tag % 32 ≡ 31
   pub whole : bytes ≡ tag ∷ rest
 
--- What stands behind the tag is no length, nor the beginning of one, whatever follows.
+-- What follows the tag is no length, nor the beginning of one, whatever follows.
 pub record HasNoLength (bytes : List ℕ) : Type 0 where
   pub tag : ℕ
   pub rest : List ℕ

@@ -11,7 +11,7 @@ pub record Part : Type 0 where
   pub at : ℕ
   pub bytes : List ℕ
 
--- what stands behind so many bytes
+-- what follows so many bytes
 abbrev pub behind : ℕ → Part → Part
 behind n p = record { at = p.at + n; bytes = drop n p.bytes }
 
@@ -23,7 +23,7 @@ pub record IsFirst (p q : Part) : Type 0 where
   pub place : q.at ≡ p.at
   pub whole : p.bytes ≡ q.bytes ++ drop (length q.bytes) p.bytes
 
--- The parts stand one behind the other, up to the end or to the first that is no element, with its fault.
+-- The parts follow one another, up to the end or to the first that is no element, with its fault.
 abbrev pub AreParts : Part → List (Result Part DerFault) → Type 0
 AreParts p [] = p.bytes ≡ []
 AreParts p ((Ok q) ∷ qs) = IsFirst p q × AreParts (behind (length q.bytes) p) qs
@@ -38,7 +38,7 @@ part_of bytes (Err e) = Err e
 abbrev pub der : List ℕ → Result Part DerFault
 der bytes = part_of bytes (reads bytes)
 
--- the element at the front, and the bytes behind it
+-- the element at the front, and the bytes after it
 abbrev pub parted : Part → Result (ℕ × List ℕ × List ℕ) DerKind → Result (Part × List ℕ) DerFault
 parted p (Ok x) = Ok (record { at = p.at; bytes = take (length p.bytes - length x.2) p.bytes }, x.2)
 parted p (Err kind) = Err (record { kind = kind; at = p.at })

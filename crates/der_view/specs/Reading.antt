@@ -15,7 +15,7 @@ abbrev pub Gives : {X Y E : Type 0} → (X → Y) → Result X E → Result Y E 
 Gives view (Ok x) read = read ≡ Ok (view x)
 Gives view (Err e) read = read ≡ Err e
 
--- a number in one to four bytes, the highest first, and what stands behind it
+-- a number in one to four bytes, the highest first, and what follows it
 abbrev pub one_at : List ℕ → Result (ℕ × List ℕ) DerKind
 one_at (a ∷ rest) = Ok (a, rest)
 one_at _ = Err Short
@@ -55,12 +55,12 @@ length_at (first ∷ rest) = if nat_lt first 0x80 then Ok (first, rest) else lon
 abbrev pub body_at : ℕ → ℕ → List ℕ → Result (ℕ × List ℕ × List ℕ) DerKind
 body_at tag n bytes = if nat_lt (length bytes) n then Err Short else Ok (tag, take n bytes, drop n bytes)
 
--- the tag and the body of the element at the front, and what stands behind it
+-- the tag and the body of the element at the front, and what follows it
 unfoldable pub first_at : List ℕ → Result (ℕ × List ℕ × List ℕ) DerKind
 first_at [] = Err Short
 first_at (tag ∷ rest) = if tag % 32 == 31 then Err HighTag else (length_at rest >>= λ x. body_at tag x.0 x.1)
 
--- nothing may stand behind it
+-- nothing may follow it
 abbrev pub alone : ℕ → Result (ℕ × List ℕ × List ℕ) DerKind → Result (ℕ × List ℕ) DerFault
 alone len (Ok x) = if length x.2 == 0 then Ok (x.0, x.1) else Err (record { kind = Trailing; at = len - length x.2 })
 alone len (Err kind) = Err (record { kind = kind; at = 0 })

@@ -25,7 +25,7 @@ impl<'a> Der<'a> {
     ghost use Rattle.der_view.specs.PartsLeft.{left};
 
     /// The element that all of the bytes spell (X.690, 8.1 and 10.1): a tag of one byte, the length
-    /// in the definite form with the fewest bytes, at most four behind its first, and the body. Else
+    /// in the definite form with the fewest bytes, at most four after its first, and the body. Else
     /// the first fault in byte order.
     pub fn read(bytes: &'a [u8]) -> Result<Der<'a>, DerFault>
         ensures exact { MatchResult result (λ d. IsElement bytes.now (tag d) (body d)) (λ fault. IsFault bytes.now fault) }
@@ -69,18 +69,18 @@ impl<'a> Der<'a> {
         self.at
     }
 
-    /// The elements that stand one behind the other in the body (X.690, 8.1.4), each or its fault,
+    /// The elements that follow one another in the body (X.690, 8.1.4), each or its fault,
     /// after which nothing comes.
     pub fn parts(&self) -> Parts<'a>
         ensures exact { AreParts (body_part (part self.now)) (left result) }
-        ensures placed { left result ≡ parts_of (part self.now) }
+        ensures place { left result ≡ parts_of (part self.now) }
     {
         let (_, rest) = split(self.slice);
         let at = self.at + (self.slice.len() - rest.len());
         Parts { rest, at }
     }
 
-    /// The element at the front of bytes, and what stands behind it.
+    /// The element at the front of bytes, and what follows it.
     pub(crate) fn first(bytes: &'a [u8], at: usize) -> Result<(Der<'a>, &'a [u8]), DerFault>
         requires in_range { at + length bytes.now < 2 ^ 64 }
         ensures read { Gives (λ x. (part x.0, x.1.now)) result (first_part (record { at = at; bytes = bytes.now })) }

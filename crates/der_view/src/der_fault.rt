@@ -8,6 +8,6 @@ pub struct DerFault {
     /// What is wrong.
     pub kind: DerKind,
     /// Where, as an offset in the bytes first read: the tag of the element at fault, and for
-    /// `Trailing` the first byte behind the element.
+    /// `Trailing` the first byte after the element.
     pub at: usize,
 }

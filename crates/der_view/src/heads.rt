@@ -5,7 +5,7 @@ ghost use Rattle.der_view.specs.Reading.{Gives, one_at, two_at, three_at, four_a
 
 use crate::der_kind::DerKind;
 
-/// The element at the front of bytes, and what stands behind it.
+/// The element at the front of bytes, and what follows it.
 #[derive(Clone, Copy)]
 pub(crate) struct First<'a> {
     pub(crate) tag: u8,
@@ -13,7 +13,7 @@ pub(crate) struct First<'a> {
     pub(crate) rest: &'a [u8],
 }
 
-/// The element at the front: its tag, its body, and the bytes behind it.
+/// The element at the front: its tag, its body, and the bytes after it.
 #[tactic(auto, unfolding(crate::specs::Reading::first_at))]
 pub(crate) fn read_first(bytes: &[u8]) -> Result<First<'_>, DerKind>
     ensures { Gives (λ x. (x.tag, x.body.now, x.rest.now)) result (first_at bytes.now) }
@@ -38,7 +38,7 @@ fn read_body(tag: u8, length: usize, bytes: &[u8]) -> Result<First<'_>, DerKind>
     Ok(First { tag, body, rest })
 }
 
-/// The length in the definite form with the fewest bytes (X.690, 10.1), and the bytes behind it.
+/// The length in the definite form with the fewest bytes (X.690, 10.1), and the bytes after it.
 fn read_length(bytes: &[u8]) -> Result<(usize, &[u8]), DerKind>
     ensures { Gives (λ x. (x.0, x.1.now)) result (length_at bytes.now) }
 {

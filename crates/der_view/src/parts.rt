@@ -6,7 +6,7 @@ ghost use Rattle.std.specs.Iterator.{YieldsFirstBy, item_count};
 use crate::der::Der;
 use crate::der_fault::DerFault;
 
-/// The elements that stand one behind the other, in order, each or its fault. It ends after a fault.
+/// The elements that follow one another, in order, each or its fault. It ends after a fault.
 #[derive(Clone, Copy)]
 pub struct Parts<'a> {
     pub(crate) rest: &'a [u8],

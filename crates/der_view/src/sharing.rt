@@ -8,9 +8,8 @@ fn is_send<T: Send>() {}
 
 fn is_sync<T: Sync>() {}
 
-/// Views, what iterates over them and their faults may be handed to another thread, and shared with
-/// it.
-pub fn crosses() {
+/// Views, the iterators over them and their faults are Send and Sync.
+pub fn types_are_send_and_sync() {
     is_send::<Der<'static>>();
     is_sync::<Der<'static>>();
     is_send::<Parts<'static>>();

@@ -7,7 +7,7 @@ use Rattle.cbor_view.specs.PartialItem.{PartialItem}
 use Rattle.mdoc_outside.specs.OptionSteps.{◌>>=◌, where_true, each}
 use Rattle.mdoc_outside.specs.declared.limit_name.LimitName.{LimitName}
 use Rattle.doc_store.specs.declared.first_fault.Fault.{Fault}
-use Rattle.doc_store.specs.Faults.{is_before, earlier, first_fault, unless, passed, passed_at}
+use Rattle.doc_store.specs.Faults.{is_before, earlier, first_fault, unless, beyond, beyond_at}
 
 abbrev pub is_clean : List Fault → Bool
 is_clean [] = true
@@ -62,12 +62,12 @@ none_past (x ∷ xs) (suc n) =
     let more : nat_le (length xs) n ≡ nat_le (suc (length xs)) (suc n) = grind (arith, nat_tests) in
     none_past xs n ∙ more
 
-clean_passed_at : (limit : LimitName) (most : ℕ) (o : Option PartialItem) → is_clean (passed_at limit most o) ≡ is_none o
+clean_passed_at : (limit : LimitName) (most : ℕ) (o : Option PartialItem) → is_clean (beyond_at limit most o) ≡ is_none o
 clean_passed_at limit most None = refl
 clean_passed_at limit most (Some g) = refl
 
 -- a limit on a list
-pub clean_passed : (limit : LimitName) (most : ℕ) (gs : List PartialItem) → is_clean (passed limit most gs) ≡ nat_le (length gs) most
+pub clean_passed : (limit : LimitName) (most : ℕ) (gs : List PartialItem) → is_clean (beyond limit most gs) ≡ nat_le (length gs) most
 clean_passed limit most gs = clean_passed_at limit most (slice_get gs most) ∙ none_past gs most
 
 -- ---- readings step by step

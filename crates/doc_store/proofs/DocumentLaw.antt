@@ -14,7 +14,7 @@ use Rattle.mdoc_outside.specs.OptionSteps.{◌>>=◌, where_true, each}
 use Rattle.doc_store.specs.Fields.{field}
 use Rattle.doc_store.specs.declared.store_check.StoreCheck.TheVariants as checks
 use Rattle.doc_store.specs.Store.{Copy, Document, name_in, within, copy, is_mac, document}
-use Rattle.doc_store.specs.Faults.{fault, if_kind, unless, passed, doc_type_faults, auth_faults, copy_faults, copies_faults, copy_list_faults, document_faults, no_copy}
+use Rattle.doc_store.specs.Faults.{fault, if_kind, unless, beyond, doc_type_faults, auth_faults, copy_faults, copies_faults, copy_list_faults, document_faults, no_copy}
 use Rattle.doc_store.proofs.CleanLaw.{is_clean, and_false, and_true, clean_joined, and_same, clean_unless, clean_passed, clean_each}
 use Rattle.doc_store.proofs.KeyLaw.{Asked, all_hold, clean_map}
 use Rattle.doc_store.proofs.SpaceLaw.{clean_name}
@@ -56,7 +56,7 @@ clean_parts : (p : Part) (parts : List Part) → AllByRecursion IsRead parts →
 clean_parts p parts read =
     let missing = no_copy (whole p) (map whole parts) in
     let same : length (map whole parts) ≡ length parts = length-map parts whole in
-    clean_joined (missing ++ flat_map copy_faults (map whole parts)) (passed limits.Copies 64 (map whole parts))
+    clean_joined (missing ++ flat_map copy_faults (map whole parts)) (beyond limits.Copies 64 (map whole parts))
     ∙ and_same _ _ _ _
     (clean_joined missing (flat_map copy_faults (map whole parts))
     ∙ and_same _ _ _ _

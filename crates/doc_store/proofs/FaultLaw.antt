@@ -1,6 +1,6 @@
 -- What is wrong with a file, against the store that it spells.
 use Rattle.std.proofs.Common.{◌≡◌, ℕ, Bool, true, false, ◌&&◌, ◌==◌, List, [], ◌∷◌, ◌++◌, map, length, filter_map, flat_map, Option, Some, None, Result, Ok, Err, is_ok, refl, sym, ap, ◌∙◌}
-use Rattle.std.specs.Prelude.{is_some, is_none, nat_le, option_map, unwrap_or}
+use Rattle.std.specs.Prelude.{is_some, is_none, nat_le, option_map}
 use Rattle.std.specs.List.{AllByRecursion}
 use Rattle.std.proofs.lemmas.List.{length-map, map-append}
 use Rattle.cbor_view.specs.declared.cbor_fault.CborFault.{CborFault}
@@ -21,7 +21,7 @@ use Rattle.doc_store.specs.Item.{spelled}
 use Rattle.doc_store.specs.declared.first_fault.Fault.{Fault}
 use Rattle.doc_store.specs.declared.store_check.StoreCheck.TheVariants as checks
 use Rattle.doc_store.specs.Store.{Document, Store, name_in, within, document, store}
-use Rattle.doc_store.specs.Faults.{fault, if_kind, unless, Entries, entries_or_none, with_text, values_of, repeated, passed, document_faults, doc_types, version_faults, documents_faults, form_faults, cbor_fault, faults, store_fault}
+use Rattle.doc_store.specs.Faults.{fault, if_kind, unless, Entries, entries_or_none, with_text, values_of, repeated, beyond, document_faults, doc_types, version_faults, documents_faults, form_faults, cbor_fault, faults, store_fault}
 use Rattle.doc_store.proofs.CleanLaw.{is_clean, and_false, and_true, clean_first, clean_joined, and_same, clean_unless, clean_passed, some_where, clean_each}
 use Rattle.doc_store.proofs.DistinctLaw.{texts_of, clean_repeated}
 use Rattle.doc_store.proofs.KeyLaw.{both_seen, Asked, all_hold, clean_map, no_field, value_seen}
@@ -98,7 +98,7 @@ abbrev documents_of : Option Part → Option Store
 documents_of o = (((o >>= items_in) >>= within 0 16) >>= each document) >>= distinct_types
 
 abbrev documents_told : List PartialItem → List Fault
-documents_told gs = flat_map document_faults gs ++ repeated (flat_map doc_types gs) ++ passed limits.Documents 16 gs
+documents_told gs = flat_map document_faults gs ++ repeated (flat_map doc_types gs) ++ beyond limits.Documents 16 gs
 
 types_test : (parts : List Part) (o : Option Store) → each document parts ≡ o →
     (is_some o && are_distinct (texts_of (flat_map doc_types (map whole parts)))) ≡ is_some (o >>= distinct_types)
@@ -115,7 +115,7 @@ clean_parts : (parts : List Part) → AllByRecursion IsRead parts →
 clean_parts parts read =
     let each_faults = flat_map document_faults (map whole parts) in
     let doubled = repeated (flat_map doc_types (map whole parts)) in
-    clean_joined (each_faults ++ doubled) (passed limits.Documents 16 (map whole parts))
+    clean_joined (each_faults ++ doubled) (beyond limits.Documents 16 (map whole parts))
     ∙ and_same _ _ _ _
     (clean_joined each_faults doubled
     ∙ and_same _ _ _ _ (clean_each IsRead whole document_faults document clean_document parts read) (clean_repeated (flat_map doc_types (map whole parts))))
@@ -162,32 +162,18 @@ clean_file bytes are = go (reads bytes) refl where
       ap (λ (g : PartialItem). is_clean (form_faults g)) (read-whole bytes tree read) ∙ clean_form file (record { are = are; ok = ap is_ok read })
 
 -- nothing is wrong with a file exactly where it spells a store
-pub one_verdict : (bytes : List ℕ) → AreBytes bytes → is_none (store_fault bytes) ≡ is_some (store bytes)
-one_verdict bytes are =
+pub store_iff_no_fault : (bytes : List ℕ) → AreBytes bytes → is_none (store_fault bytes) ≡ is_some (store bytes)
+store_iff_no_fault bytes are =
     clean_first (faults bytes) ∙ clean_joined (cbor_fault (reads bytes)) (form_faults (front_item bytes)) ∙ clean_file bytes (record { each = are })
     ∙ sym (ap (λ (o : Option Store). is_some o) (store_filed bytes))
 
--- a file that is no store has a first fault
-pub unread_has_fault : (bytes : List ℕ) → AreBytes bytes → store bytes ≡ None → is_some (store_fault bytes) ≡ true
-unread_has_fault bytes are unread = go (store_fault bytes) (one_verdict bytes are ∙ ap (λ (o : Option Store). is_some o) unread) where
-  go : (o : Option Fault) → is_none o ≡ false → is_some o ≡ true
-  go None e = cc
-  go (Some f) e = refl
+-- a file without a fault is a store
+pub without_fault : (bytes : List ℕ) → AreBytes bytes → store_fault bytes ≡ None → is_some (store bytes) ≡ true
+without_fault bytes are none = sym (store_iff_no_fault bytes are) ∙ ap (λ (o : Option Fault). is_none o) none
 
--- and a store has none
-pub read_has_none : (bytes : List ℕ) (documents : Store) → AreBytes bytes → store bytes ≡ Some documents → store_fault bytes ≡ None
-read_has_none bytes documents are read = go (store_fault bytes) (one_verdict bytes are ∙ ap (λ (o : Option Store). is_some o) read) where
-  go : (o : Option Fault) → is_none o ≡ true → o ≡ None
-  go None e = refl
-  go (Some f) e = cc
-
--- where there is none, the file is a store
-pub never_without : (bytes : List ℕ) → AreBytes bytes → store bytes ≡ None → store_fault bytes ≡ None → ⊥
-never_without bytes are unread none = let some : is_some (store_fault bytes) ≡ true = unread_has_fault bytes are unread in cc
-
--- what the bytes of a store give
-pub given : (bytes : List ℕ) → AreBytes bytes → is_some (store bytes) ≡ true → (store bytes ≡ Some (unwrap_or (store bytes) [])) × (store_fault bytes ≡ None)
-given bytes are is = go (store bytes) refl where
-  go : (o : Option Store) → store bytes ≡ o → (o ≡ Some (unwrap_or o [])) × (store_fault bytes ≡ None)
-  go None read = let none : is_some (store bytes) ≡ false = ap (λ (o : Option Store). is_some o) read in cc
-  go (Some documents) read = (refl, read_has_none bytes documents are read)
+-- and one that has a fault is none
+pub with_fault : (bytes : List ℕ) (f : Fault) → AreBytes bytes → store_fault bytes ≡ Some f → store bytes ≡ None
+with_fault bytes f are some = go (store bytes) (sym (store_iff_no_fault bytes are) ∙ ap (λ (o : Option Fault). is_none o) some) where
+  go : (o : Option Store) → is_some o ≡ false → o ≡ None
+  go None none = refl
+  go (Some documents) none = cc

@@ -29,7 +29,7 @@ earlier-sooner x (Some f) None = alone (is_before f x) where
   alone false = refl
 earlier-sooner x (Some f) (Some g) = earlier-cases x f g (is_before g f) (is_before f x) (is_before g x) refl refl refl
 
--- the first of two lists one behind the other
+-- the first of two lists one after another
 pub first_joined : (xs ys : List Fault) → first_fault (xs ++ ys) ≡ sooner (first_fault xs) (first_fault ys)
 first_joined [] ys = refl
 first_joined (x ∷ xs) ys = ap (earlier x) (first_joined xs ys) ∙ earlier-sooner x (first_fault xs) (first_fault ys)
@@ -42,23 +42,6 @@ sooner_assoc : (a b c : Option Fault) → sooner (sooner a b) c ≡ sooner a (so
 sooner_assoc None b c = refl
 sooner_assoc (Some f) b c = sym (earlier-sooner f b c)
 
--- the faults of one more, behind what was found
+-- the faults of one more, after what was found
 pub one_more : (found : Option Fault) (xs ys : List Fault) → sooner (sooner found (first_fault xs)) (first_fault ys) ≡ sooner found (first_fault (xs ++ ys))
 one_more found xs ys = sooner_assoc found (first_fault xs) (first_fault ys) ∙ ap (sooner found) (sym (first_joined xs ys))
-
--- the first of three lists one behind the other
-pub three_joined : (a b c : Option Fault) (xs ys zs : List Fault) → a ≡ first_fault xs → b ≡ first_fault ys → c ≡ first_fault zs →
-    sooner a (sooner b c) ≡ first_fault (xs ++ (ys ++ zs))
-three_joined a b c xs ys zs ea eb ec =
-    ap (λ o. sooner o (sooner b c)) ea ∙ ap (λ o. sooner (first_fault xs) (sooner o c)) eb ∙ ap (λ o. sooner (first_fault xs) (sooner (first_fault ys) o)) ec
-    ∙ ap (sooner (first_fault xs)) (sym (first_joined ys zs)) ∙ sym (first_joined xs (ys ++ zs))
-
--- and of four
-pub four_joined : (a b c d : Option Fault) (xs ys zs us : List Fault) → a ≡ first_fault xs → b ≡ first_fault ys → c ≡ first_fault zs → d ≡ first_fault us →
-    sooner a (sooner b (sooner c d)) ≡ first_fault (xs ++ (ys ++ (zs ++ us)))
-four_joined a b c d xs ys zs us ea eb ec ed =
-    ap (sooner a) (three_joined b c d ys zs us eb ec ed) ∙ ap (λ o. sooner o (first_fault (ys ++ (zs ++ us)))) ea ∙ sym (first_joined xs (ys ++ (zs ++ us)))
-
--- with no more behind them
-pub no_more : (xs : List Fault) → first_fault (xs ++ []) ≡ first_fault xs
-no_more xs = first_joined xs [] ∙ sooner_none (first_fault xs)

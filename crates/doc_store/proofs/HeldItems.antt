@@ -11,9 +11,9 @@ use Rattle.mdoc_outside.specs.OptionSteps.{◌>>=◌, where_true, each}
 use Rattle.doc_store.specs.Fields.{are_distinct}
 use Rattle.doc_store.specs.Held.{is_named, is_item}
 use Rattle.doc_store.specs.HeldItem.{no_space, held_by, raws_in, is_raw}
-use Rattle.doc_store.specs.InHand.{beside}
+use Rattle.doc_store.specs.SpaceItems.{beside}
 use Rattle.doc_store.specs.Item.{Item, item}
-use Rattle.doc_store.specs.Parts.{said_by}
+use Rattle.doc_store.specs.Parts.{value_or}
 use Rattle.doc_store.specs.Store.{within, named_item, namespace, spread, items_of}
 
 abbrev Named : Type 0
@@ -30,7 +30,7 @@ pub record Spaces (entries : List (Part × Part)) (items : List Named) : Type 0 
 
 -- the items of a copy are those of its namespaces
 pub items_spaces : (entries : List (Part × Part)) (items : List Named) → items_of entries ≡ Some items → Spaces entries items
-items_spaces entries items said = by_count (nat_le 0 (length entries) && nat_le (length entries) 16) said where
+items_spaces entries items given = by_count (nat_le 0 (length entries) && nat_le (length entries) 16) given where
   by_within : (spaces : List Space) (b : Bool) → each namespace entries ≡ Some spaces → where_true b (flat_map spread spaces) ≡ Some items → Spaces entries items
   by_within spaces false each_is e = cc
   by_within spaces true each_is e = record { read = rw each_is refl; all = let same : items ≡ flat_map spread spaces = cc in rw (each_is, same) refl }
@@ -52,7 +52,7 @@ items_spaces entries items said = by_count (nat_le 0 (length entries) && nat_le 
   by_count false e = cc
   by_count true e = by_spaces (each namespace entries) refl e
 
--- ---- one namespace and those behind it
+-- ---- one namespace and those after it
 
 abbrev pub held_all : List ℕ → List ℕ → List Space → Option (List ℕ)
 held_all ns name spaces = option_map (λ (stored : Named). stored.1) (find (is_item ns name) (flat_map spread spaces))
@@ -83,8 +83,8 @@ find-spread ns name own (raw ∷ raws) false e = rw e (find-spread ns name own r
 -- an item is stored as the bytes of its part
 each-raw : (parts : List Part) (items : List Named) → each named_item parts ≡ Some items →
     map (λ (named : Named). named.1) items ≡ map (λ (p : Part). p.bytes) parts
-each-raw [] items said = let same : items ≡ [] = cc in rw same refl
-each-raw (p ∷ parts) items said = go (item p.bytes) (each named_item parts) (each-raw parts) said where
+each-raw [] items given = let same : items ≡ [] = cc in rw same refl
+each-raw (p ∷ parts) items given = go (item p.bytes) (each named_item parts) (each-raw parts) given where
   by_size : (read : Item) (b : Bool) (rest : Option (List Named)) → ((rest_items : List Named) → rest ≡ Some rest_items → map (λ (named : Named). named.1) rest_items ≡ map (λ (q : Part). q.bytes) parts) →
       (where_true b (read.name, p.bytes) >>= λ x. rest >>= λ xs. Some (x ∷ xs)) ≡ Some items →
       map (λ (named : Named). named.1) items ≡ map (λ (q : Part). q.bytes) (p ∷ parts)
@@ -119,7 +119,7 @@ pub record SpaceParts (key value : Part) : Type 0 where
   pub parts : List Part
   pub text : text_in key ≡ Some own
   pub array : items_in value ≡ Some parts
-  pub said : said_by no_space namespace (key, value) ≡ (own, raws_of parts)
+  pub given : value_or no_space namespace (key, value) ≡ (own, raws_of parts)
 
 pub space_parts : (key value : Part) → is_some {T = Space} (namespace (key, value)) ≡ true → SpaceParts key value
 space_parts key value read = by_text (text_in key) (items_in value) refl refl read where
@@ -131,7 +131,7 @@ space_parts key value read = by_text (text_in key) (items_in value) refl refl re
     parts = parts;
     text = text;
     array = array;
-    said = rw (text, array, small, each_is, test, each-raw parts items each_is) refl;
+    given = rw (text, array, small, each_is, test, each-raw parts items each_is) refl;
   }
 
   by_items : (own : List ℕ) (parts : List Part) (o : Option (List Named)) → text_in key ≡ Some own → items_in value ≡ Some parts →
@@ -152,21 +152,21 @@ space_parts key value read = by_text (text_in key) (items_in value) refl refl re
 
 -- a namespace holds the item where its name is the one, and its items are those of the array
 pub held_here : (ns name : List ℕ) (key value : Part) → is_some {T = Space} (namespace (key, value)) ≡ true →
-    held_by ns name (said_by no_space namespace (key, value)) ≡ cond (is_words ns (text_in key)) (find (is_raw name) (raws_in value)) None
+    held_by ns name (value_or no_space namespace (key, value)) ≡ cond (is_words ns (text_in key)) (find (is_raw name) (raws_in value)) None
 held_here ns name key value read =
     let space = space_parts key value read in
-    rw (space.said, space.text, space.array) (find-spread ns name space.own (raws_of space.parts) (bytes_eq space.own ns) refl)
+    rw (space.given, space.text, space.array) (find-spread ns name space.own (raws_of space.parts) (bytes_eq space.own ns) refl)
 
 -- the parts of the array beside the name are the items of the namespace
-pub beside-said : (own : List ℕ) (parts : List Part) → beside own parts ≡ spread (own, raws_of parts)
-beside-said own [] = refl
-beside-said own (p ∷ parts) = ap (λ rest. (own, p.bytes) ∷ rest) (beside-said own parts)
+pub beside-given : (own : List ℕ) (parts : List Part) → beside own parts ≡ spread (own, raws_of parts)
+beside-given own [] = refl
+beside-given own (p ∷ parts) = ap (λ rest. (own, p.bytes) ∷ rest) (beside-given own parts)
 
 -- a namespace that can be read, by its name and its array
 pub opened : (key value : Part) (own : List ℕ) (parts : List Part) → text_in key ≡ Some own → items_in value ≡ Some parts →
-    is_some {T = Space} (namespace (key, value)) ≡ true → beside own parts ≡ spread (said_by no_space namespace (key, value))
+    is_some {T = Space} (namespace (key, value)) ≡ true → beside own parts ≡ spread (value_or no_space namespace (key, value))
 opened key value own parts text array read =
     let space = space_parts key value read in
     let own_same : own ≡ space.own = cc in
     let parts_same : parts ≡ space.parts = cc in
-    rw (space.said, own_same, parts_same) (beside-said space.own space.parts)
+    rw (space.given, own_same, parts_same) (beside-given space.own space.parts)

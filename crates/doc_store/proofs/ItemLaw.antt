@@ -1,132 +1,134 @@
 -- What is wrong with a stored item that is whole, against the reading of it.
-use Rattle.std.proofs.Common.{◌≡◌, ℕ, Bool, true, false, cond, ◌&&◌, List, length, Option, Some, None, Result, Ok, Err, is_ok, refl, sym, ap, ◌∙◌}
+use Rattle.std.proofs.Common.{◌≡◌, ℕ, Bool, true, false, cond, ◌&&◌, List, length, Option, Some, None, Result, Ok, Err, IsOk, is_ok, refl, sym, ap, subst, ◌∙◌}
 use Rattle.std.specs.Prelude.{is_some, nat_le, option_and_then}
 use Rattle.cbor_view.specs.declared.cbor_fault.CborFault.{CborFault}
 use Rattle.cbor_view.specs.declared.doubled.Doubled.{Doubled}
 use Rattle.cbor_view.specs.Tree.{Tree}
-use Rattle.cbor_view.specs.Label.{Words}
 use Rattle.cbor_view.specs.PartialItem.{whole}
-use Rattle.cbor_view.specs.Reading.{reads}
-use Rattle.cbor_view.specs.Parts.{Part, cbor, part_of, tagged, entry_in, uint_in, bytes_in, text_in}
+use Rattle.cbor_view.specs.Reading.{Gives, reads}
+use Rattle.cbor_view.specs.Parts.{Part, cbor, part_of, tagged, uint_in, bytes_in, text_in}
 use Rattle.cbor_view.proofs.ReadParts.{IsRead, string_moved}
-use Rattle.mdoc_outside.specs.KeyName.{key_text}
 use Rattle.mdoc_outside.specs.declared.key_name.KeyName.{KeyName}
 use Rattle.mdoc_outside.specs.declared.key_name.KeyName.TheVariants as keys
 use Rattle.mdoc_outside.specs.declared.limit_name.LimitName.TheVariants as limits
 use Rattle.mdoc_outside.specs.OptionSteps.{◌>>=◌, where_true}
-use Rattle.doc_store.specs.Fields.{once, field}
+use Rattle.doc_store.specs.Fields.{once}
 use Rattle.doc_store.specs.Item.{Item, item, spelled, fields_of}
 use Rattle.doc_store.specs.declared.item_fault.ItemFault.{ItemFault}
 use Rattle.doc_store.specs.declared.item_fault.ItemFault.TheVariants as items
 use Rattle.doc_store.specs.declared.store_check.StoreCheck.TheVariants as checks
 use Rattle.doc_store.specs.Store.{named_item}
-use Rattle.doc_store.specs.Faults.{fault, name_limit, value_limit, is_doubled, doubled_key, wrong_field, any_item, ◌orelse◌, fields_fault, inside_fault, tagged_fault, item_fault, item_limits, whole_item, item_faults}
-use Rattle.doc_store.proofs.CleanLaw.{is_clean, and_false, and_same, clean_joined, clean_unless, some_where}
+use Rattle.doc_store.specs.ItemFaults.{is_doubled, any_item, ◌orelse◌, inside_fault, tagged_fault, item_fault, item_of_fields, entry_at, read_entries, read_inside, read_tagged, read_item, ItemOrFault}
+use Rattle.doc_store.specs.ItemView.{seen_by}
+use Rattle.doc_store.specs.Faults.{fault, name_limit, value_limit, item_limits, whole_item, item_faults}
+use Rattle.doc_store.proofs.CleanLaw.{is_clean, and_same, clean_joined, clean_unless, some_where}
 
 -- ---- the fields of an item
 
-abbrev is_right : Option ItemFault → Bool
-is_right None = true
-is_right (Some f) = false
+dead : {A B : Type 0} (o : Option A) → ◌≡◌ {A = Option B} (o >>= λ x. None) None
+dead None = refl
+dead (Some x) = refl
 
-right_or : (one other : Option ItemFault) → is_right (one orelse other) ≡ (is_right one && is_right other)
-right_or None other = refl
-right_or (Some f) other = refl
+dead_two : {A B C : Type 0} (o : Option A) (p : Option B) → ◌≡◌ {A = Option C} (o >>= λ x. p >>= λ y. None) None
+dead_two None p = refl
+dead_two (Some x) p = dead p
 
-abbrev doubled_by : KeyName → Result (Option Part) Doubled → Option ItemFault
-doubled_by name entry = cond (is_doubled entry) (Some (items.Doubled name)) None
+dead_three : {A B C D : Type 0} (o : Option A) (p : Option B) (q : Option C) → ◌≡◌ {A = Option D} (o >>= λ x. p >>= λ y. q >>= λ z. None) None
+dead_three None p q = refl
+dead_three (Some x) p q = dead_two p q
 
-abbrev wrong_by : {A : Type 0} → KeyName → (Part → Option A) → Option Part → Option ItemFault
-wrong_by name reading value = cond (is_some (option_and_then reading value)) None (Some (items.Field name))
+same_step : {A B : Type 0} (step : A → Option B) (o : Option A) → (o >>= step) ≡ option_and_then step o
+same_step step None = refl
+same_step step (Some x) = refl
 
--- a key that stands twice has no value
-right_once : {A : Type 0} (map : Part) (name : KeyName) (reading : Part → Option A) →
-    is_right (wrong_field map name reading) ≡ (is_right (doubled_key map name) && is_right (wrong_field map name reading))
-right_once map name reading = go (entry_in (Words (key_text name)) map) where
-  go : (entry : Result (Option Part) Doubled) → is_right (wrong_by name reading (once entry)) ≡ (is_right (doubled_by name entry) && is_right (wrong_by name reading (once entry)))
-  go (Ok found) = refl
-  go (Err doubled) = refl
-
-right_field : {A : Type 0} (map : Part) (name : KeyName) (reading : Part → Option A) →
-    is_right (wrong_field map name reading) ≡ is_some (field (key_text name) map >>= reading)
-right_field {A} map name reading = go (field (key_text name) map) where
-  by : (o : Option A) → is_right (cond (is_some o) None (Some (items.Field name))) ≡ is_some o
-  by None = refl
-  by (Some x) = refl
-
-  go : (o : Option Part) → is_right (wrong_by name reading o) ≡ is_some (o >>= reading)
-  go None = refl
-  go (Some value) = by (reading value)
-
--- eight tests, the first four of which the last four tell
-eight : (a b c d e f g h : Bool) → e ≡ (a && e) → f ≡ (b && f) → g ≡ (c && g) → h ≡ (d && h) →
-    (((((((a && b) && c) && d) && e) && f) && g) && h) ≡ (e && (f && (g && h)))
-eight a b c d e f g false ea fb gc hd = and_false _ ∙ sym (ap (λ x. e && x) (ap (λ x. f && x) (and_false g)) ∙ ap (λ x. e && x) (and_false f) ∙ and_false e)
-eight a b c d e f false true ea fb gc hd = ap (λ x. x && true) (and_false _) ∙ sym (ap (λ x. e && x) (and_false f) ∙ and_false e)
-eight a b c d e false true true ea fb gc hd = ap (λ x. (x && true) && true) (and_false _) ∙ sym (and_false e)
-eight a b c d false true true true ea fb gc hd = ap (λ x. ((x && true) && true) && true) (and_false _)
-eight true true true true true true true true ea fb gc hd = refl
-eight false b c d true true true true ea fb gc hd = cc
-eight true false c d true true true true ea fb gc hd = cc
-eight true true false d true true true true ea fb gc hd = cc
-eight true true true false true true true true ea fb gc hd = cc
-
-all_right : (a b c d e f g h : Option ItemFault) →
-    is_right (a orelse b orelse c orelse d orelse e orelse f orelse g orelse h)
-    ≡ (((((((is_right a && is_right b) && is_right c) && is_right d) && is_right e) && is_right f) && is_right g) && is_right h)
-all_right a b c d e f g h = simp right_or
+any_step : (o : Option Part) → o ≡ option_and_then any_item o
+any_step None = refl
+any_step (Some x) = refl
 
 abbrev made : ℕ → List ℕ → List ℕ → Part → Item
 made digest_id random name value = record { digest_id = digest_id; random = random; name = name; value = value.bytes }
 
-read_fields : (one : Option ℕ) (two three : Option (List ℕ)) (four : Option Part) →
-    is_some (one >>= λ digest_id. two >>= λ random. three >>= λ name. four >>= λ value. Some (made digest_id random name value))
-    ≡ (is_some one && (is_some two && (is_some three && is_some four)))
-read_fields None two three four = refl
-read_fields (Some a) None three four = refl
-read_fields (Some a) (Some b) None four = refl
-read_fields (Some a) (Some b) (Some c) None = refl
-read_fields (Some a) (Some b) (Some c) (Some d) = refl
+abbrev fields_by : Option ℕ → Option (List ℕ) → Option (List ℕ) → Option Part → Option Item
+fields_by one two three four = one >>= λ digest_id. two >>= λ random. three >>= λ name. four >>= λ value. Some (made digest_id random name value)
 
-some_any : (o : Option Part) → is_some (o >>= any_item) ≡ is_some o
-some_any None = refl
-some_any (Some value) = refl
+abbrev wrong_by : {A : Type 0} → KeyName → Option A → Option ItemFault
+wrong_by name value = cond (is_some value) None (Some (items.Field name))
 
--- nothing is wrong with the map of an item exactly where its fields are read
-right_fields : (map : Part) → is_right (fields_fault map) ≡ is_some (fields_of map)
-right_fields map =
-    all_right (doubled_key map keys.DigestId) (doubled_key map keys.Random) (doubled_key map keys.ElementIdentifier) (doubled_key map keys.ElementValue)
-    (wrong_field map keys.DigestId uint_in) (wrong_field map keys.Random bytes_in) (wrong_field map keys.ElementIdentifier text_in) (wrong_field map keys.ElementValue any_item)
-    ∙ eight _ _ _ _ _ _ _ _ (right_once map keys.DigestId uint_in) (right_once map keys.Random bytes_in) (right_once map keys.ElementIdentifier text_in) (right_once map keys.ElementValue any_item)
-    ∙ and_same _ _ _ _ (right_field map keys.DigestId uint_in) (and_same _ _ _ _ (right_field map keys.Random bytes_in)
-    (and_same _ _ _ _ (right_field map keys.ElementIdentifier text_in) (right_field map keys.ElementValue any_item ∙ some_any (field (key_text keys.ElementValue) map))))
-    ∙ sym (read_fields (field (key_text keys.DigestId) map >>= uint_in) (field (key_text keys.Random) map >>= bytes_in) (field (key_text keys.ElementIdentifier) map >>= text_in) (field (key_text keys.ElementValue) map))
+abbrev kinds_by : Option ℕ → Option (List ℕ) → Option (List ℕ) → Option Part → Option ItemFault
+kinds_by one two three four = None orelse None orelse None orelse None orelse wrong_by keys.DigestId one orelse wrong_by keys.Random two orelse wrong_by keys.ElementIdentifier three orelse wrong_by keys.ElementValue four
+
+kinds_agree : (one : Option ℕ) (two three : Option (List ℕ)) (four : Option Part) → ItemOrFault (item_of_fields one two three four) (fields_by one two three four) (kinds_by one two three four)
+kinds_agree None two three four = (refl, refl)
+kinds_agree (Some a) None three four = (refl, refl)
+kinds_agree (Some a) (Some b) None four = (refl, refl)
+kinds_agree (Some a) (Some b) (Some c) None = (refl, refl)
+kinds_agree (Some a) (Some b) (Some c) (Some d) = (refl, refl)
+
+abbrev doubled_by : KeyName → Result (Option Part) Doubled → Option ItemFault
+doubled_by name entry = cond (is_doubled entry) (Some (items.Doubled name)) None
+
+-- the fields and the first fault of a map by the entries of the four keys
+abbrev fields_in : (a b c d : Result (Option Part) Doubled) → Option Item
+fields_in a b c d = fields_by (once a >>= uint_in) (once b >>= bytes_in) (once c >>= text_in) (once d)
+
+abbrev fault_in_fields : (a b c d : Result (Option Part) Doubled) → Option ItemFault
+fault_in_fields a b c d =
+    doubled_by keys.DigestId a orelse doubled_by keys.Random b orelse doubled_by keys.ElementIdentifier c orelse doubled_by keys.ElementValue d
+    orelse wrong_by keys.DigestId (option_and_then uint_in (once a)) orelse wrong_by keys.Random (option_and_then bytes_in (once b))
+    orelse wrong_by keys.ElementIdentifier (option_and_then text_in (once c)) orelse wrong_by keys.ElementValue (option_and_then any_item (once d))
+
+entries_agree : (a b c d : Result (Option Part) Doubled) → ItemOrFault (read_entries a b c d) (fields_in a b c d) (fault_in_fields a b c d)
+entries_agree (Err e) b c d = (refl, refl)
+entries_agree (Ok a) (Err e) c d = (dead (a >>= uint_in), refl)
+entries_agree (Ok a) (Ok b) (Err e) d = (dead_two (a >>= uint_in) (b >>= bytes_in), refl)
+entries_agree (Ok a) (Ok b) (Ok c) (Err e) = (dead_three (a >>= uint_in) (b >>= bytes_in) (c >>= text_in), refl)
+entries_agree (Ok a) (Ok b) (Ok c) (Ok d) =
+    let read = item_of_fields (option_and_then uint_in a) (option_and_then bytes_in b) (option_and_then text_in c) (option_and_then any_item d) in
+    let fault = kinds_by (option_and_then uint_in a) (option_and_then bytes_in b) (option_and_then text_in c) (option_and_then any_item d) in
+    rw (same_step uint_in a, same_step bytes_in b, same_step text_in c)
+    (subst (λ (o : Option Part). ItemOrFault read (fields_by (option_and_then uint_in a) (option_and_then bytes_in b) (option_and_then text_in c) o) fault) (sym (any_step d))
+    (kinds_agree (option_and_then uint_in a) (option_and_then bytes_in b) (option_and_then text_in c) (option_and_then any_item d)))
 
 -- ---- the item by what stands under its tag
 
 abbrev item_inside : Option (List ℕ) → Option Item
 item_inside o = o >>= λ inside. spelled (cbor inside) >>= λ map. fields_of map
 
-same_step : (o : Option Part) → (o >>= bytes_in) ≡ option_and_then bytes_in o
-same_step None = refl
-same_step (Some part) = refl
-
-item_tagged : (p : Part) → IsRead p → item p.bytes ≡ item_inside (option_and_then bytes_in (tagged 24 p))
+item_tagged : (p : Part) → IsOk (reads p.bytes) → item p.bytes ≡ item_inside (option_and_then bytes_in (tagged 24 p))
 unfolding item
-item_tagged p read = go (reads p.bytes) read.ok where
+item_tagged p read = go (reads p.bytes) read where
   go : (r : Result Tree CborFault) → is_ok r ≡ true →
       (spelled (part_of p.bytes r) >>= λ all. (tagged 24 all >>= bytes_in) >>= λ inside. spelled (cbor inside) >>= λ map. fields_of map) ≡ item_inside (option_and_then bytes_in (tagged 24 p))
   go (Err f) ok = cc
   go (Ok tree) ok =
       let all : Part = record { at = 0; bytes = p.bytes } in
-      ap item_inside (same_step (tagged 24 all) ∙ string_moved 24 all p refl)
+      ap item_inside (same_step bytes_in (tagged 24 all) ∙ string_moved 24 all p refl)
 
-right_tagged : (o : Option (List ℕ)) → is_right (tagged_fault o) ≡ is_some (item_inside o)
-right_tagged None = refl
-right_tagged (Some inside) = go (cbor inside) where
-  go : (r : Result Part CborFault) → is_right (inside_fault r) ≡ is_some (spelled r >>= λ map. fields_of map)
-  go (Err f) = refl
-  go (Ok map) = right_fields map
+inside_agrees : (r : Result Part CborFault) → ItemOrFault (read_inside r) (spelled r >>= λ map. fields_of map) (inside_fault r)
+inside_agrees (Err f) = (refl, refl)
+inside_agrees (Ok map) = entries_agree (entry_at keys.DigestId map) (entry_at keys.Random map) (entry_at keys.ElementIdentifier map) (entry_at keys.ElementValue map)
+
+tagged_agrees : (o : Option (List ℕ)) → ItemOrFault (read_tagged o) (item_inside o) (tagged_fault o)
+tagged_agrees None = (refl, refl)
+tagged_agrees (Some inside) = inside_agrees (cbor inside)
+
+-- the reading of a stored item gives it, or its first fault
+pub item_agrees : (p : Part) → IsOk (reads p.bytes) → ItemOrFault (read_item p) (item p.bytes) (item_fault p)
+item_agrees p read = subst (λ (o : Option Item). ItemOrFault (read_item p) o (item_fault p)) (sym (item_tagged p read)) (tagged_agrees (option_and_then bytes_in (tagged 24 p)))
+
+-- what a call gave, seen as an item or its fault
+pub as_read : {X : Type 0} (view : X → Item) (given : Result X ItemFault) (read : Result Item ItemFault) (i : Option Item) (f : Option ItemFault) →
+    Gives view given read → ItemOrFault read i f → ItemOrFault (seen_by view given) i f
+as_read view (Ok x) read i f e agrees = subst (λ (r : Result Item ItemFault). ItemOrFault r i f) e agrees
+as_read view (Err z) read i f e agrees = subst (λ (r : Result Item ItemFault). ItemOrFault r i f) e agrees
+
+abbrev is_right : Option ItemFault → Bool
+is_right None = true
+is_right (Some f) = false
+
+right_agrees : (r : Result Item ItemFault) (i : Option Item) (f : Option ItemFault) → ItemOrFault r i f → is_right f ≡ is_some i
+right_agrees (Ok read) i f agrees = ap is_right agrees.1 ∙ sym (ap (λ (o : Option Item). is_some o) agrees.0)
+right_agrees (Err wrong) i f agrees = ap is_right agrees.1 ∙ sym (ap (λ (o : Option Item). is_some o) agrees.0)
 
 -- ---- its limits
 
@@ -150,6 +152,4 @@ clean_whole p (Some f) (Some read) it same = cc
 
 -- nothing is wrong with an item exactly where it is read, within the limits
 pub clean_item : (p : Part) → IsRead p → is_clean (item_faults (whole p)) ≡ is_some (named_item p)
-clean_item p read =
-    clean_whole p (item_fault p) (item p.bytes) refl
-    (right_tagged (option_and_then bytes_in (tagged 24 p)) ∙ sym (ap (λ (o : Option Item). is_some o) (item_tagged p read)))
+clean_item p read = clean_whole p (item_fault p) (item p.bytes) refl (right_agrees (read_item p) (item p.bytes) (item_fault p) (item_agrees p read.ok))

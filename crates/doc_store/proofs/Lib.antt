@@ -10,9 +10,9 @@ pub mod PartialKinds
 pub mod HeldItems
 pub mod ItemLaw
 pub mod KeyLaw
+pub mod KeyPass
 pub mod LeastFault
 pub mod NameSets
-pub mod Namespaces
 pub mod Placing
 pub mod Readers
 pub mod SpaceLaw

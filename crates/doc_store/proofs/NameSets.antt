@@ -1,7 +1,7 @@
 -- The names that were seen, as a set and as a list.
 use denote.Ref.{Bor}
-use Rattle.std.proofs.Common.{◌≡◌, ℕ, Bool, true, false, cond, not, List, [], ◌∷◌, map, Ordering, Some, ap, sym, refl, ◌∙◌}
-use Rattle.std.specs.Prelude.{◌||◌, ◌&&◌, filter_map}
+use Rattle.std.proofs.Common.{◌≡◌, ℕ, Bool, true, false, cond, not, List, [], ◌∷◌, map, Ordering, Option, Some, None, ap, sym, refl, ◌∙◌}
+use Rattle.std.specs.Prelude.{◌||◌, ◌&&◌, is_some}
 use Rattle.std.specs.BTreeMap.{is_at}
 use Rattle.std.specs.BTreeSet.{BTreeSet, contains, Updates}
 use Rattle.std.specs.Cmp.Lexicographic.{slice_cmp}
@@ -11,10 +11,11 @@ use Rattle.std.specs.Str.{bytes_eq}
 use Rattle.std.proofs.lemmas.Cmp.{nat_list_eq_equiv}
 use Rattle.std.proofs.lemmas.Map.Text.{is_eq-slice_cmp}
 use Rattle.cbor_view.specs.PartialItem.{PartialItem}
-use Rattle.mdoc_outside.specs.KeyName.{key_text}
-use Rattle.mdoc_outside.specs.declared.key_name.KeyName.{KeyName}
+use Rattle.doc_store.specs.declared.first_fault.Fault.{Fault}
+use Rattle.doc_store.specs.declared.names.Names.{Names}
 use Rattle.doc_store.specs.Fields.{are_distinct}
-use Rattle.doc_store.specs.Faults.{Entries, again, is_text, text_if_whole, values_of, with_text}
+use Rattle.doc_store.specs.Names.{names_seen, was_seen, again_after}
+use Rattle.doc_store.specs.Faults.{again}
 
 -- ---- the set
 
@@ -30,7 +31,7 @@ found_by name (key ∷ keys) = rw (is_eq-slice_cmp name key.now, found_by name k
 -- whether it is there, by whether it is new
 pub before_added : (set : BTreeSet (Bor (List ℕ))) (name : Bor (List ℕ)) (added : Bool) → added ≡ not (contains text_order set name) →
     not added ≡ list_any (bytes_eq name.now) (map (λ key. key.now) set.keys)
-before_added set name added said = twice (contains text_order set name) added said ∙ found_by name.now set.keys where
+before_added set name added given = twice (contains text_order set name) added given ∙ found_by name.now set.keys where
   twice : (b a : Bool) → a ≡ not b → not a ≡ b
   twice true a e = rw e refl
   twice false a e = rw e refl
@@ -42,9 +43,9 @@ either false c = refl
 -- what is there once it was added
 pub after_added : (old new : BTreeSet (Bor (List ℕ))) (name : Bor (List ℕ)) → Updates text_order old new name true → (other : List ℕ) →
     list_any (bytes_eq other) (map (λ key. key.now) new.keys) ≡ (bytes_eq other name.now || list_any (bytes_eq other) (map (λ key. key.now) old.keys))
-after_added old new name said other =
+after_added old new name given other =
     sym (found_by other new.keys)
-    ∙ (said.0 (record { ref_ptr = (0, 0); now = other })
+    ∙ (given.0 (record { ref_ptr = (0, 0); now = other })
     ∙ rw (is_eq-slice_cmp name.now other, found_by other old.keys, nat_list_eq_equiv.symm other name.now) (either (bytes_eq name.now other) (list_any (bytes_eq other) (map (λ key. key.now) old.keys))))
 
 -- ---- what stands again
@@ -64,28 +65,19 @@ again_same (x ∷ xs) seen others same = rw (same x.0, again_same xs (x.0 ∷ se
 -- a name that is new
 pub again_next : (seen new : List (List ℕ)) (x : List ℕ × PartialItem) (xs : List (List ℕ × PartialItem)) → list_any (bytes_eq x.0) seen ≡ false →
     ((name : List ℕ) → list_any (bytes_eq name) new ≡ (bytes_eq name x.0 || list_any (bytes_eq name) seen)) → again seen (x ∷ xs) ≡ again new xs
-again_next seen new x xs unseen said = rw unseen (again_same xs (x.0 ∷ seen) new (λ name. sym (said name)))
+again_next seen new x xs unseen given = rw unseen (again_same xs (x.0 ∷ seen) new (λ name. sym (given name)))
 
--- a key of a map whose value is a text
-pub text_next : (name : KeyName) (key value : PartialItem) (entries : Entries) (text : List ℕ) → is_text (key_text name) (text_if_whole key) ≡ true → text_if_whole value ≡ Some text →
-    filter_map with_text (values_of name ((key, Some value) ∷ entries)) ≡ (text, value) ∷ filter_map with_text (values_of name entries)
-text_next name key value entries text is said = rw (is, said) refl
+pub new_name : (first : Option Fault) (old new : Names) (x : List ℕ × PartialItem) (others : List (List ℕ × PartialItem)) → is_some first ≡ false → was_seen old x.0 ≡ false →
+    ((name : List ℕ) → was_seen new name ≡ (bytes_eq name x.0 || was_seen old name)) → again_after first old (x ∷ others) ≡ again_after first new others
+new_name None old new x others none unseen given = again_next (names_seen old) (names_seen new) x others unseen given
+new_name (Some f) old new x others none unseen given = cc
 
 -- ---- names of which no two are equal
 
--- whether each of the names is new: none of those that were seen, nor of those in front of it
+-- whether each of the names is new: none of those that were seen, nor of those before it
 abbrev pub are_new : List (List ℕ) → List (List ℕ) → Bool
 are_new seen [] = true
 are_new seen (name ∷ names) = not (list_any (bytes_eq name) seen) && are_new (name ∷ seen) names
-
-new_same : (names seen others : List (List ℕ)) → AreSame seen others → are_new seen names ≡ are_new others names
-new_same [] seen others same = refl
-new_same (name ∷ names) seen others same = rw (same name, new_same names (name ∷ seen) (name ∷ others) (with_one name seen others same)) refl
-
--- a name that is new
-pub new_next : (seen new : List (List ℕ)) (name : List ℕ) (names : List (List ℕ)) → list_any (bytes_eq name) seen ≡ false →
-    ((other : List ℕ) → list_any (bytes_eq other) new ≡ (bytes_eq other name || list_any (bytes_eq other) seen)) → are_new seen (name ∷ names) ≡ are_new new names
-new_next seen new name names unseen said = rw unseen (new_same names (name ∷ seen) new (λ other. sym (said other)))
 
 -- whether none of the names was seen
 abbrev are_unseen : List (List ℕ) → List (List ℕ) → Bool

@@ -1,14 +1,14 @@
--- The item at a place of two lists, one behind the other.
+-- The item at a place of two lists, one after another.
 use Rattle.std.proofs.Common.{◌≡◌, ℕ, zero, suc, List, [], ◌∷◌, ◌++◌, Option, Some, Result, Ok, Err, refl}
 use Rattle.std.specs.Prelude.{slice_get}
-use Rattle.doc_store.specs.Placed.{placed}
+use Rattle.doc_store.specs.ItemOrRest.{item_or_rest}
 
--- what stands there: the item, or what stands in the second list behind the places that are left
+-- what stands there: the item, or what stands in the second list after the places that are left
 abbrev pub or_behind : {A : Type 0} → List A → Result A ℕ → Option A
 or_behind ys (Ok x) = Some x
 or_behind ys (Err n) = slice_get ys n
 
-pub get_placed : {A : Type 0} (xs ys : List A) (n : ℕ) → slice_get (xs ++ ys) n ≡ or_behind ys (placed xs n)
+pub get_placed : {A : Type 0} (xs ys : List A) (n : ℕ) → slice_get (xs ++ ys) n ≡ or_behind ys (item_or_rest xs n)
 get_placed [] ys n = refl
 get_placed (x ∷ xs) ys zero = refl
 get_placed (x ∷ xs) ys (suc n) = get_placed xs ys n

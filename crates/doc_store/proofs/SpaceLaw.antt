@@ -14,7 +14,7 @@ use Rattle.doc_store.specs.Item.{Item, item}
 use Rattle.doc_store.specs.declared.store_check.StoreCheck.{StoreCheck}
 use Rattle.doc_store.specs.declared.store_check.StoreCheck.TheVariants as checks
 use Rattle.doc_store.specs.Store.{name_in, within, named_item, namespace, spread, items_of}
-use Rattle.doc_store.specs.Faults.{fault, if_kind, of_kind, text_if_whole, name_limit, with_text, repeated, passed, item_faults, item_name, listed, space_items, space_value, space_faults, keys_in, entries_faults, spaces_faults}
+use Rattle.doc_store.specs.Faults.{fault, if_kind, of_kind, text_if_whole, name_limit, with_text, repeated, beyond, item_faults, item_name, listed, space_items, space_value, space_faults, keys_in, entries_faults, spaces_faults}
 use Rattle.doc_store.proofs.EachPart.{each_length}
 use Rattle.doc_store.proofs.CleanLaw.{is_clean, and_true, and_false, and_assoc, and_same, from_zero, clean_joined, clean_unless, clean_passed, some_where, clean_each}
 use Rattle.doc_store.proofs.DistinctLaw.{texts_of, clean_repeated}
@@ -228,8 +228,8 @@ clean_entries : (entries : List (Part × Part)) → AllByRecursion BothRead entr
 clean_entries entries read =
     let spaces = flat_map space_faults (both_seen entries) in
     let doubled = repeated (filter_map with_text (keys_in (both_seen entries))) in
-    let many = passed limits.Namespaces 16 (keys_in (both_seen entries)) in
-    let more = passed limits.Items 512 (flat_map space_items (both_seen entries)) in
+    let many = beyond limits.Namespaces 16 (keys_in (both_seen entries)) in
+    let more = beyond limits.Items 512 (flat_map space_items (both_seen entries)) in
     clean_joined ((spaces ++ doubled) ++ many) more
     ∙ and_same _ _ _ _
     (clean_joined (spaces ++ doubled) many

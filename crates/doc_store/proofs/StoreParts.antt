@@ -9,7 +9,7 @@ use Rattle.cbor_view.specs.declared.cbor_fault.CborFault.{CborFault}
 use Rattle.cbor_view.specs.Parts.{Part, cbor}
 use Rattle.mdoc_outside.specs.OptionSteps.{◌>>=◌, where_true, each}
 use Rattle.doc_store.specs.Fields.{are_distinct}
-use Rattle.doc_store.specs.DocumentForm.{version_in, documents_in}
+use Rattle.doc_store.specs.DocumentFields.{version_in, documents_in}
 use Rattle.doc_store.specs.Document.{no_document}
 use Rattle.doc_store.specs.Held.{is_of_type, document_found, document_place, IsAt}
 use Rattle.doc_store.specs.Item.{spelled}

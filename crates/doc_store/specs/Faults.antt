@@ -2,23 +2,20 @@
 -- the first of them in byte order.
 use Rattle.std.specs.Prelude.{ℕ, ◌+◌, ◌==◌, ◌^◌, nat_le, nat_lt, List, [], ◌∷◌, ◌++◌, length, map, filter, filter_map, flat_map, drop, slice_get, Bool, true, false, not, ◌&&◌, ◌||◌, Option, Some, None, is_some, option_map, option_and_then, Result, Ok, Err, if◌then◌else◌}
 use Rattle.std.specs.List.{list_any}
-use Rattle.std.specs.Option.{option_or}
 use Rattle.std.specs.Str.{bytes_eq}
 use Rattle.cbor_view.specs.declared.cbor_fault.CborFault.{CborFault}
-use Rattle.cbor_view.specs.declared.doubled.Doubled.{Doubled}
 use Rattle.cbor_view.specs.Tree.{Tree}
-use Rattle.cbor_view.specs.Label.{Words}
 use Rattle.cbor_view.specs.PartialItem.{PartialItem, broken, front_item, place_in, whole_in, declared_count, partial_items, partial_pairs, partial_tag}
-use Rattle.cbor_view.specs.Parts.{Part, cbor, tagged, entry_in, uint_in, bytes_in, text_in, boolean_in}
+use Rattle.cbor_view.specs.Parts.{Part, uint_in, text_in, boolean_in}
 use Rattle.cbor_view.specs.Reading.{reads}
 use Rattle.mdoc_outside.specs.KeyName.{key_text}
 use Rattle.mdoc_outside.specs.declared.key_name.KeyName.{KeyName}
 use Rattle.mdoc_outside.specs.declared.key_name.KeyName.TheVariants as keys
 use Rattle.mdoc_outside.specs.declared.limit_name.LimitName.{LimitName}
 use Rattle.mdoc_outside.specs.declared.limit_name.LimitName.TheVariants as limits
-use Rattle.doc_store.specs.Fields.{field}
 use Rattle.doc_store.specs.declared.first_fault.Fault.{Fault}
 use Rattle.doc_store.specs.Item.{Item, item}
+use Rattle.doc_store.specs.ItemFaults.{item_fault}
 use Rattle.doc_store.specs.declared.item_fault.ItemFault.{ItemFault}
 use Rattle.doc_store.specs.declared.item_fault.ItemFault.TheVariants as items
 use Rattle.doc_store.specs.declared.store_check.StoreCheck.{StoreCheck}
@@ -66,18 +63,18 @@ nothing x = []
 -- ---- limits and names
 
 -- the item that passes a limit on a list
-abbrev pub passed_at : LimitName → ℕ → Option PartialItem → List Fault
-passed_at limit most None = []
-passed_at limit most (Some g) = fault (checks.Limit limit (most + 1)) g ∷ []
+abbrev pub beyond_at : LimitName → ℕ → Option PartialItem → List Fault
+beyond_at limit most None = []
+beyond_at limit most (Some g) = fault (checks.Limit limit (most + 1)) g ∷ []
 
-abbrev pub passed : LimitName → ℕ → List PartialItem → List Fault
-passed limit most gs = passed_at limit most (slice_get gs most)
+abbrev pub beyond : LimitName → ℕ → List PartialItem → List Fault
+beyond limit most gs = beyond_at limit most (slice_get gs most)
 
 -- a name of more than 128 bytes
 abbrev pub name_limit : PartialItem → List ℕ → List Fault
 name_limit g name = unless (nat_le (length name) 128) (fault (checks.Limit limits.Name (length name)) g)
 
--- what stands there a second time: the first text that is equal to one in front of it
+-- what stands there a second time: the first text that is equal to one before it
 abbrev pub again : List (List ℕ) → List (List ℕ × PartialItem) → List Fault
 again seen [] = []
 again seen (x ∷ xs) = if list_any (bytes_eq x.0) seen then fault checks.Doubled x.1 ∷ [] else again (x.0 ∷ seen) xs
@@ -135,42 +132,6 @@ map_faults key others g = of_kind (checks.Field key.name) partial_pairs (λ entr
 
 -- ---- a stored item
 
--- what is wrong with the bytes of a stored item, by the first check that fails
-abbrev pub is_doubled : Result (Option Part) Doubled → Bool
-is_doubled (Ok found) = false
-is_doubled (Err doubled) = true
-
-abbrev pub doubled_key : Part → KeyName → Option ItemFault
-doubled_key map name = if is_doubled (entry_in (Words (key_text name)) map) then Some (items.Doubled name) else None
-
-abbrev pub wrong_field : {A : Type 0} → Part → KeyName → (Part → Option A) → Option ItemFault
-wrong_field map name reading = if is_some (option_and_then reading (field (key_text name) map)) then None else Some (items.Field name)
-
-abbrev pub any_item : Part → Option Part
-any_item part = Some part
-
-infixl 10 ◌orelse◌
-abbrev pub ◌orelse◌ : Option ItemFault → Option ItemFault → Option ItemFault
-one orelse other = option_or one other
-
-abbrev pub fields_fault : Part → Option ItemFault
-fields_fault map =
-    doubled_key map keys.DigestId orelse doubled_key map keys.Random
-    orelse doubled_key map keys.ElementIdentifier orelse doubled_key map keys.ElementValue
-    orelse wrong_field map keys.DigestId uint_in orelse wrong_field map keys.Random bytes_in
-    orelse wrong_field map keys.ElementIdentifier text_in orelse wrong_field map keys.ElementValue any_item
-
-abbrev pub inside_fault : Result Part CborFault → Option ItemFault
-inside_fault (Err f) = Some (items.Cbor f)
-inside_fault (Ok map) = fields_fault map
-
-abbrev pub tagged_fault : Option (List ℕ) → Option ItemFault
-tagged_fault None = Some items.NotTagged
-tagged_fault (Some inside) = inside_fault (cbor inside)
-
-abbrev pub item_fault : Part → Option ItemFault
-item_fault part = tagged_fault (option_and_then bytes_in (tagged 24 part))
-
 -- a limit that its name or its value passes
 abbrev pub value_limit : PartialItem → ℕ → List Fault
 value_limit g bytes = unless (nat_le bytes 262144) (fault (checks.Limit limits.Value bytes) g)
@@ -226,7 +187,7 @@ keys_in entries = map (λ (entry : PartialItem × Option PartialItem). entry.0) 
 abbrev pub entries_faults : Entries → List Fault
 entries_faults entries =
     flat_map space_faults entries ++ repeated (filter_map with_text (keys_in entries))
-    ++ passed limits.Namespaces 16 (keys_in entries) ++ passed limits.Items 512 (flat_map space_items entries)
+    ++ beyond limits.Namespaces 16 (keys_in entries) ++ beyond limits.Items 512 (flat_map space_items entries)
 
 abbrev pub spaces_faults : PartialItem → List Fault
 spaces_faults g = of_kind (checks.Field keys.NameSpaces) partial_pairs entries_faults g
@@ -259,7 +220,7 @@ no_copy g [] = fault (checks.Field keys.Copies) g ∷ []
 no_copy g (copy ∷ others) = []
 
 abbrev pub copy_list_faults : PartialItem → List PartialItem → List Fault
-copy_list_faults g gs = no_copy g gs ++ flat_map copy_faults gs ++ passed limits.Copies 64 gs
+copy_list_faults g gs = no_copy g gs ++ flat_map copy_faults gs ++ beyond limits.Copies 64 gs
 
 abbrev pub copies_faults : PartialItem → List Fault
 copies_faults g = of_kind (checks.Field keys.Copies) partial_items (copy_list_faults g) g
@@ -280,7 +241,7 @@ abbrev pub version_faults : PartialItem → List Fault
 version_faults g = of_kind (checks.Field keys.Version) uint_if_whole (λ n. unless (n == 1) (fault checks.Version g)) g
 
 abbrev pub document_list_faults : List PartialItem → List Fault
-document_list_faults gs = flat_map document_faults gs ++ repeated (flat_map doc_types gs) ++ passed limits.Documents 16 gs
+document_list_faults gs = flat_map document_faults gs ++ repeated (flat_map doc_types gs) ++ beyond limits.Documents 16 gs
 
 abbrev pub documents_faults : PartialItem → List Fault
 documents_faults g = of_kind (checks.Field keys.Documents) partial_items document_list_faults g

@@ -17,7 +17,7 @@ abbrev pub spelled : Result Part CborFault → Option Part
 spelled (Ok part) = Some part
 spelled (Err fault) = None
 
--- the map IssuerSignedItem; each of its four keys stands there once, and others are passed over
+-- the map IssuerSignedItem; each of its four keys stands there once, and others are ignored
 abbrev pub fields_of : Part → Option Item
 fields_of map = do
   digest_id ← field (codes "digestID") map >>= uint_in

@@ -8,6 +8,6 @@ use Rattle.doc_store.specs.Store.{within}
 abbrev pub items_within : ℕ → ℕ → Part → Option (List Part)
 items_within least most list = items_in list >>= within least most
 
--- what a part says by a definition, and something else where it says nothing
-abbrev pub said_by : {A B : Type 0} → B → (A → Option B) → A → B
-said_by other says x = unwrap_or (says x) other
+-- what a reading gives, and something else where it gives nothing
+abbrev pub value_or : {A B : Type 0} → B → (A → Option B) → A → B
+value_or other says x = unwrap_or (says x) other

@@ -5,7 +5,7 @@ use Rattle.doc_store.specs.declared.store_fault.StoreFault.TheVariants.{Form, Me
 use Rattle.doc_store.specs.Faults.{store_fault}
 use Rattle.doc_store.specs.Store.{store}
 
--- The file spells no store, and the fault that is told is its first. Want of memory is free.
+-- The file spells no store, and the fault that is reported is its first. Want of memory is free.
 abbrev pub IsFault : StoreFault → List ℕ → Type 0
 IsFault (Form first) bytes = (store bytes ≡ None) × (store_fault bytes ≡ Some first)
 IsFault Memory bytes = Unit {0}

@@ -1,6 +1,6 @@
 //! What is wrong with the copies of a document.
 
-ghost use Rattle.std.specs.Prelude.{◌≡◌};
+ghost use Rattle.std.specs.Prelude.{◌≡◌, flat_map};
 ghost use Rattle.cbor_view.specs.PartialView.{partial_item};
 ghost use Rattle.cbor_view.specs.PartialItems.{partial_items_left};
 ghost use Rattle.mdoc_outside.specs.declared.key_name.KeyName.TheVariants as keys;
@@ -10,33 +10,40 @@ ghost use Rattle.doc_store.specs.Found.{Finds};
 use crate::StoreCheck;
 use crate::first_fault::{Fault, sooner};
 use crate::form_key::{FormKey, key_fault};
-use crate::judge::{Judge, of_items};
 use crate::kind_faults::{fault, other_kind};
+use crate::limit_faults::items_beyond;
 use crate::limits::MOST_COPIES;
 use crate::namespace_faults::NameSpaces;
-use crate::passed::items_passed;
 use crate::simple_keys::{DeviceKeyNumber, IssuerAuth, Used};
 use cbor_view::{PartialItems, PartialView};
 use mdoc_outside::{KeyName, LimitName, Memory};
 use std::alloc::Global;
 
-/// A copy.
-struct Copy;
+/// What is wrong with a copy.
+#[tactic(auto, using(crate::proofs::FirstFaults::first_joined, crate::proofs::FirstFaults::sooner_none))]
+fn copy_fault(alloc: Global, copy: &PartialView<'_>) -> Result<Option<Fault>, Memory>
+    ensures { Finds result (copy_faults (partial_item copy.now)) }
+{
+    let Some(entries) = copy.pairs() else {
+        return Ok(other_kind(StoreCheck::Field(KeyName::Key), copy));
+    };
+    let key = key_fault(&DeviceKeyNumber, alloc, copy, entries)?;
+    let used = key_fault(&Used, alloc, copy, entries)?;
+    let issuer_auth = key_fault(&IssuerAuth, alloc, copy, entries)?;
+    let name_spaces = key_fault(&NameSpaces, alloc, copy, entries)?;
+    Ok(sooner(key, sooner(used, sooner(issuer_auth, name_spaces))))
+}
 
-impl Judge for Copy {
-    ghost faults = { λ _. copy_faults };
-
-    #[tactic(auto, using(crate::proofs::FirstFaults::first_joined, crate::proofs::FirstFaults::sooner_none))]
-    fn fault_of(&self, alloc: Global, item: &PartialView<'_>) -> Result<Option<Fault>, Memory> {
-        let Some(entries) = item.pairs() else {
-            return Ok(other_kind(StoreCheck::Field(KeyName::Key), item));
-        };
-        let key = key_fault(&DeviceKeyNumber, alloc, item, entries)?;
-        let used = key_fault(&Used, alloc, item, entries)?;
-        let issuer_auth = key_fault(&IssuerAuth, alloc, item, entries)?;
-        let name_spaces = key_fault(&NameSpaces, alloc, item, entries)?;
-        Ok(sooner(key, sooner(used, sooner(issuer_auth, name_spaces))))
+/// The first fault of several copies.
+#[tactic(auto, using(crate::proofs::FirstFaults::one_more, crate::proofs::FirstFaults::sooner_none))]
+fn of_copies(alloc: Global, copies: PartialItems<'_>) -> Result<Option<Fault>, Memory>
+    ensures { Finds result (flat_map copy_faults (partial_items_left copies.entry)) }
+{
+    let mut found = None;
+    for copy in copies {
+        found = sooner(found, copy_fault(alloc, &copy)?);
     }
+    Ok(found)
 }
 
 /// A list of no copies.
@@ -59,9 +66,9 @@ fn copies_fault(
 ) -> Result<Option<Fault>, Memory>
     ensures { Finds result (copy_list_faults (partial_item list.now) (partial_items_left copies.entry)) }
 {
-    let of_each = of_items(&Copy, alloc, copies)?;
-    let past = items_passed(copies, LimitName::Copies, MOST_COPIES);
-    Ok(sooner(sooner(no_copy(list, copies), of_each), past))
+    let of_each = of_copies(alloc, copies)?;
+    let beyond = items_beyond(copies, LimitName::Copies, MOST_COPIES);
+    Ok(sooner(sooner(no_copy(list, copies), of_each), beyond))
 }
 
 /// The copies of a document.

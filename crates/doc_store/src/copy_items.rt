@@ -7,8 +7,8 @@ ghost use Rattle.cbor_view.specs.Pairs.{pairs_left};
 ghost use Rattle.cbor_view.specs.View.{part};
 ghost use Rattle.mdoc_outside.specs.OptionSteps.{each};
 ghost use Rattle.doc_store.specs.HeldItem.{no_space};
-ghost use Rattle.doc_store.specs.InHand.{beside, parts_of};
-ghost use Rattle.doc_store.specs.Parts.{said_by};
+ghost use Rattle.doc_store.specs.SpaceItems.{beside, parts_of};
+ghost use Rattle.doc_store.specs.Parts.{value_or};
 ghost use Rattle.doc_store.specs.Store.{namespace, spread};
 
 use cbor_view::{Items, Pairs, View};
@@ -61,7 +61,7 @@ impl<'a> Iterator for CopyItems<'a> {
     }
 }
 
-/// The first item, and those behind it.
+/// The first item, and those after it.
 fn first_of<'a>(items: Option<Items<'a>>) -> Option<(View<'a>, Items<'a>)>
     ensures { MatchOption result (parts_of items.entry ≡ [])
         (λ r. parts_of items.entry ≡ part r.0 ∷ left r.1) }
@@ -76,7 +76,7 @@ fn first_of<'a>(items: Option<Items<'a>>) -> Option<(View<'a>, Items<'a>)>
 fn open_space<'a>(name: &View<'a>, list: &View<'a>) -> (&'a str, Items<'a>)
     requires { is_some (namespace (part name.now, part list.now)) ≡ true }
     ensures { beside result.0.now (left result.1)
-        ≡ spread (said_by no_space namespace (part name.now, part list.now)) }
+        ≡ spread (value_or no_space namespace (part name.now, part list.now)) }
 {
     match (name.text(), list.items()) {
         (Some(own), Some(items)) => (own, items),

@@ -5,11 +5,11 @@ ghost use Rattle.cbor_view.specs.Items.{left};
 ghost use Rattle.cbor_view.specs.View.{part};
 ghost use Rattle.mdoc_outside.specs.OptionSteps.{each};
 ghost use Rattle.doc_store.specs.Held.{chosen, is_unused};
-ghost use Rattle.doc_store.specs.Parts.{said_by};
+ghost use Rattle.doc_store.specs.Parts.{value_or};
 ghost use Rattle.doc_store.specs.Store.{copy, document};
 ghost use Rattle.doc_store.specs.StoredCopy.{no_copy, copy_of};
 
-use crate::document_form::{read_copies, read_doc_type, read_uses_mac};
+use crate::document_fields::{read_copies, read_doc_type, read_uses_mac};
 use crate::listing::{count_of, item_at};
 use crate::stored_copy::StoredCopy;
 use cbor_view::{Items, View};
@@ -79,7 +79,7 @@ impl<'a> Document<'a> {
 
     #[tactic(auto, using(crate::proofs::EachPart::each_length))]
     fn stored_copies(&self) -> Items<'a>
-        ensures said { each copy (left result) ≡ Some (document_of self.now).copies }
+        ensures given { each copy (left result) ≡ Some (document_of self.now).copies }
         ensures few { length (left result) ≤ 64 }
         ensures some { 0 < length (left result) }
         ensures count { length (document_of self.now).copies ≡ length (left result) }
@@ -94,7 +94,7 @@ impl<'a> Document<'a> {
 /// Whether a copy is unused.
 fn is_unused(stored: &View<'_>) -> bool
     requires { is_some (copy (part stored.now)) ≡ true }
-    ensures { result ≡ is_unused (said_by no_copy copy (part stored.now)) }
+    ensures { result ≡ is_unused (value_or no_copy copy (part stored.now)) }
 {
     !StoredCopy { stored: *stored }.used()
 }

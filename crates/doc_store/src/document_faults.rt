@@ -1,40 +1,54 @@
 //! What is wrong with the documents of a store file.
 
+ghost use Rattle.std.specs.Prelude.{◌++◌, flat_map};
+ghost use Rattle.cbor_view.specs.PartialView.{partial_item};
 ghost use Rattle.cbor_view.specs.PartialItems.{partial_items_left};
 ghost use Rattle.mdoc_outside.specs.declared.key_name.KeyName.TheVariants as keys;
-ghost use Rattle.doc_store.specs.Faults.{document_faults, document_list_faults, documents_faults};
+ghost use Rattle.doc_store.specs.Faults.{doc_types, document_faults, document_list_faults, documents_faults, repeated};
 ghost use Rattle.doc_store.specs.Found.{Finds};
 
 use crate::StoreCheck;
 use crate::copy_faults::Copies;
 use crate::first_fault::{Fault, sooner};
 use crate::form_key::{FormKey, key_fault};
-use crate::judge::{Judge, of_items};
 use crate::kind_faults::other_kind;
+use crate::limit_faults::items_beyond;
 use crate::limits::MOST_DOCUMENTS;
-use crate::passed::items_passed;
-use crate::repeated::doc_types_again;
+use crate::repeated::{Repeated, take_types};
 use crate::simple_keys::{Auth, DocType};
 use cbor_view::{PartialItems, PartialView};
 use mdoc_outside::{KeyName, LimitName, Memory};
 use std::alloc::Global;
 
-/// A document.
-struct Document;
+/// What is wrong with a document.
+#[tactic(auto, using(crate::proofs::FirstFaults::first_joined, crate::proofs::FirstFaults::sooner_none))]
+fn document_fault(alloc: Global, document: &PartialView<'_>) -> Result<Option<Fault>, Memory>
+    ensures { Finds result (document_faults (partial_item document.now)) }
+{
+    let Some(entries) = document.pairs() else {
+        return Ok(other_kind(StoreCheck::Field(KeyName::DocType), document));
+    };
+    let doc_type = key_fault(&DocType, alloc, document, entries)?;
+    let auth = key_fault(&Auth, alloc, document, entries)?;
+    let copies = key_fault(&Copies, alloc, document, entries)?;
+    Ok(sooner(doc_type, sooner(auth, copies)))
+}
 
-impl Judge for Document {
-    ghost faults = { λ _. document_faults };
-
-    #[tactic(auto, using(crate::proofs::FirstFaults::first_joined, crate::proofs::FirstFaults::sooner_none))]
-    fn fault_of(&self, alloc: Global, item: &PartialView<'_>) -> Result<Option<Fault>, Memory> {
-        let Some(entries) = item.pairs() else {
-            return Ok(other_kind(StoreCheck::Field(KeyName::DocType), item));
-        };
-        let doc_type = key_fault(&DocType, alloc, item, entries)?;
-        let auth = key_fault(&Auth, alloc, item, entries)?;
-        let copies = key_fault(&Copies, alloc, item, entries)?;
-        Ok(sooner(doc_type, sooner(auth, copies)))
+/// What is wrong with each document, and with their types.
+#[tactic(auto, using(crate::proofs::FirstFaults::first_joined, crate::proofs::FirstFaults::one_more, crate::proofs::FirstFaults::sooner_none))]
+fn of_documents(alloc: Global, documents: PartialItems<'_>) -> Result<Option<Fault>, Memory>
+    ensures { Finds result (flat_map document_faults (partial_items_left documents.entry)
+        ++ repeated (flat_map doc_types (partial_items_left documents.entry))) }
+{
+    let mut types = Repeated::new(alloc);
+    let mut found = None;
+    for document in documents {
+        found = sooner(found, document_fault(alloc, &document)?);
+        if let Some(entries) = document.pairs() {
+            take_types(&mut types, entries)?;
+        }
     }
+    Ok(sooner(found, types.first()))
 }
 
 /// What is wrong with a list of documents.
@@ -42,10 +56,9 @@ impl Judge for Document {
 fn documents_fault(alloc: Global, documents: PartialItems<'_>) -> Result<Option<Fault>, Memory>
     ensures { Finds result (document_list_faults (partial_items_left documents.entry)) }
 {
-    let of_each = of_items(&Document, alloc, documents)?;
-    let again = doc_types_again(alloc, documents)?;
-    let past = items_passed(documents, LimitName::Documents, MOST_DOCUMENTS);
-    Ok(sooner(sooner(of_each, again), past))
+    let of_each = of_documents(alloc, documents)?;
+    let beyond = items_beyond(documents, LimitName::Documents, MOST_DOCUMENTS);
+    Ok(sooner(of_each, beyond))
 }
 
 /// The documents of a store file.

@@ -1,12 +1,14 @@
 //! The keys of the maps of a store file.
 
-ghost use Rattle.std.specs.Prelude.{◌≡◌, flat_map};
-ghost use Rattle.cbor_view.specs.PartialItem.{PartialItem};
+ghost use Rattle.std.specs.Prelude.{◌≡◌, Some, if◌then◌else◌, is_some, not};
+ghost use Rattle.std.specs.Option.{option_or};
+ghost use Rattle.cbor_view.specs.PartialItem.{PartialItem, whole_in};
 ghost use Rattle.cbor_view.specs.PartialView.{partial_item};
 ghost use Rattle.cbor_view.specs.PartialPairs.{partial_pairs_left};
 ghost use Rattle.mdoc_outside.specs.KeyName.{key_text};
 ghost use Rattle.doc_store.specs.Found.{Finds};
-ghost use Rattle.doc_store.specs.Faults.{Key, entries_of, first_fault, has_key, is_text, key_again, key_faults, key_missing, text_if_whole, values_of};
+ghost use Rattle.doc_store.specs.Faults.{Key, fault, first_fault, is_text, key_faults, text_if_whole, unless};
+ghost use Rattle.doc_store.specs.declared.store_check.StoreCheck.TheVariants as checks;
 
 use crate::StoreCheck;
 use crate::first_fault::{Fault, sooner};
@@ -39,67 +41,30 @@ pub(crate) fn is_key(item: &PartialView<'_>, name: KeyName) -> bool
     }
 }
 
-/// Whether a key has that name.
-fn has_key(entries: PartialPairs<'_>, name: KeyName) -> bool
-    ensures { result ≡ has_key name (partial_pairs_left entries.entry) }
-{
-    for (item, _) in entries {
-        if is_key(&item, name) {
-            return true;
-        }
-    }
-    false
-}
-
 /// A key that is missing, in a map that is whole.
-fn missing(map: &PartialView<'_>, entries: PartialPairs<'_>, name: KeyName) -> Option<Fault>
-    ensures { result ≡ first_fault (key_missing (partial_item map.now) name (partial_pairs_left entries.entry)) }
+fn missing(map: &PartialView<'_>, name: KeyName) -> Option<Fault>
+    ensures { result ≡ first_fault (unless (not (is_some (whole_in (partial_item map.now)))) (fault (checks.Field name) (partial_item map.now))) }
 {
-    if map.view().is_none() || has_key(entries, name) {
+    if map.view().is_none() {
         None
     } else {
         Some(fault(StoreCheck::Field(name), map))
     }
 }
 
-/// A key that stands a second time.
-fn again(entries: PartialPairs<'_>, name: KeyName) -> Option<Fault>
-    ensures { result ≡ first_fault (key_again name (partial_pairs_left entries.entry)) }
+/// Where a key of a map stands again, by whether it stood before and where it stood again.
+fn again_at(stood: bool, again: Option<Fault>, item: &PartialView<'_>) -> Option<Fault>
+    ensures { result ≡ (if stood then option_or again (Some (fault checks.Doubled (partial_item item.now))) else again) }
 {
-    let mut seen = false;
-    for (item, _) in entries {
-        if is_key(&item, name) {
-            if seen {
-                return Some(fault(StoreCheck::Doubled, &item));
-            }
-            seen = true;
-        }
+    if stood {
+        again.or(Some(fault(StoreCheck::Doubled, item)))
+    } else {
+        again
     }
-    None
 }
 
-/// The first fault of the values of a key.
-#[tactic(auto, using(crate::proofs::FirstFaults::one_more, crate::proofs::FirstFaults::sooner_none))]
-fn of_values<K: FormKey>(
-    key: &K,
-    alloc: Global,
-    entries: PartialPairs<'_>,
-) -> Result<Option<Fault>, Memory>
-    ensures { Finds result (flat_map (K.key key.now).value (values_of (K.key key.now).name (partial_pairs_left entries.entry))) }
-{
-    let mut found = None;
-    for (item, value) in entries {
-        if is_key(&item, key.name()) {
-            if let Some(value) = value {
-                found = sooner(found, key.fault_of(alloc, &value)?);
-            }
-        }
-    }
-    Ok(found)
-}
-
-/// The first fault by a key of a map.
-#[tactic(auto, using(crate::proofs::FirstFaults::first_joined))]
+/// The first fault by a key of a map: it stands nowhere, it stands again, or a value of it is wrong.
+#[tactic(auto, using(crate::proofs::FirstFaults::first_joined, crate::proofs::FirstFaults::one_more, crate::proofs::FirstFaults::sooner_none))]
 pub(crate) fn key_fault<K: FormKey>(
     key: &K,
     alloc: Global,
@@ -110,9 +75,18 @@ pub(crate) fn key_fault<K: FormKey>(
         (key_faults (partial_item map.now) (partial_pairs_left entries.entry) (K.key key.now)) }
 {
     let name = key.name();
-    let of_values = of_values(key, alloc, entries)?;
-    Ok(sooner(
-        missing(map, entries, name),
-        sooner(again(entries, name), of_values),
-    ))
+    let mut stands = false;
+    let mut again = None;
+    let mut found = None;
+    for (item, value) in entries {
+        if is_key(&item, name) {
+            again = again_at(stands, again, &item);
+            stands = true;
+            if let Some(value) = value {
+                found = sooner(found, key.fault_of(alloc, &value)?);
+            }
+        }
+    }
+    let missing = if stands { None } else { missing(map, name) };
+    Ok(sooner(missing, sooner(again, found)))
 }

@@ -5,7 +5,7 @@ ghost use Rattle.cbor_view.specs.Label.{is_words};
 ghost use Rattle.cbor_view.specs.Parts.{text_in};
 ghost use Rattle.cbor_view.specs.View.{part};
 ghost use Rattle.doc_store.specs.HeldItem.{is_raw, raws_in, no_space, held_by};
-ghost use Rattle.doc_store.specs.Parts.{said_by};
+ghost use Rattle.doc_store.specs.Parts.{value_or};
 ghost use Rattle.doc_store.specs.Store.{namespace};
 
 use crate::item::Item;
@@ -21,7 +21,7 @@ pub(crate) fn find_in_space<'a>(
 ) -> Option<&'a [u8]>
     requires { is_some (namespace (part space.now, part items.now)) ≡ true }
     ensures { option_map (λ b. b.now) result
-        ≡ held_by ns.now name.now (said_by no_space namespace (part space.now, part items.now)) }
+        ≡ held_by ns.now name.now (value_or no_space namespace (part space.now, part items.now)) }
 {
     if is_text(space, ns) {
         find_named(items, name)
@@ -44,18 +44,18 @@ fn find_named<'a>(list: &View<'a>, name: &str) -> Option<&'a [u8]>
 {
     let items = list.items()?;
     for stored in items {
-        if is_named(stored.raw(), name) {
+        if is_named(&stored, name) {
             return Some(stored.raw());
         }
     }
     None
 }
 
-fn is_named(raw: &[u8], name: &str) -> bool
-    ensures { result ≡ is_raw name.now raw.now }
+fn is_named(stored: &View<'_>, name: &str) -> bool
+    ensures { result ≡ is_raw name.now (part stored.now).bytes }
 {
-    match Item::read(raw) {
-        Some(item) => item.name == name,
-        None => false,
+    match Item::read(stored) {
+        Ok(item) => item.name == name,
+        Err(_) => false,
     }
 }

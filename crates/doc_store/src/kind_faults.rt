@@ -6,6 +6,7 @@ ghost use Rattle.doc_store.specs.Faults.{boolean_if_whole, fault, first_fault, i
 
 use crate::StoreCheck;
 use crate::first_fault::Fault;
+use crate::limits::MOST_NAME_BYTES;
 use cbor_view::PartialView;
 use mdoc_outside::LimitName;
 
@@ -59,11 +60,11 @@ pub(crate) fn boolean(item: &PartialView<'_>) -> Option<bool>
     item.view()?.boolean()
 }
 
-/// A name of more than 128 bytes.
+/// A name that is too long.
 pub(crate) fn name_limit(item: &PartialView<'_>, name: &str) -> Option<Fault>
     ensures { result ≡ first_fault (name_limit (partial_item item.now) name.now) }
 {
-    if name.len() <= 128 {
+    if name.len() <= MOST_NAME_BYTES {
         None
     } else {
         Some(fault(StoreCheck::Limit(LimitName::Name, name.len() as u64), item))

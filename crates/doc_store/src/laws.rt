@@ -30,14 +30,14 @@ pub fn same_presence()
     ensures { SamePresence }
 {}
 
-/// The law that nothing is wrong with a file exactly where it spells a store.
-#[tactic(auto, using(crate::proofs::FaultLaw::one_verdict))]
-pub fn one_verdict()
+/// The law that a file is a store exactly where it has no fault.
+#[tactic(auto, using(crate::proofs::FaultLaw::store_iff_no_fault))]
+pub fn store_iff_no_fault()
     ensures { (bytes : List ℕ) → AreBytes bytes → is_none (store_fault bytes) ≡ is_some (store bytes) }
 {}
 
 /// The law that the first fault of a file is one of its faults, and that none of them stands before it:
-/// at a place in front of it, or at its place with a check that comes sooner.
+/// at a place before it, or at its place with a check that comes sooner.
 pub fn first_of_all()
     ensures { (bytes : List ℕ) (f : Fault) → store_fault bytes ≡ Some f → IsFirst f (faults bytes) }
 {}

@@ -1,8 +1,7 @@
-//! The names that were seen, and names of which no two are equal.
+//! The names that were seen.
 
-ghost use Rattle.std.specs.Prelude.{◌≡◌, ◌||◌, IfOk, List, OnOk, [], map, ℕ};
+ghost use Rattle.std.specs.Prelude.{◌≡◌, ◌||◌, IfOk, List, OnOk, [], ℕ};
 ghost use Rattle.std.specs.Str.{bytes_eq};
-ghost use Rattle.doc_store.specs.Fields.{are_distinct};
 ghost use Rattle.doc_store.specs.Names.{names_seen, was_seen};
 
 use mdoc_outside::Memory;
@@ -34,18 +33,4 @@ impl<'a> Names<'a> {
         let added = self.seen.insert(name)?;
         Ok(!added)
     }
-}
-
-/// Whether no two of the names are equal.
-#[tactic(auto, using(crate::proofs::NameSets::new_from_none))]
-pub(crate) fn are_distinct(alloc: Global, names: &[&str]) -> Result<bool, Memory>
-    ensures { IfOk result (λ distinct. distinct ≡ are_distinct (map (λ t. t.now) names.now)) }
-{
-    let mut seen = Names::new(alloc);
-    for name in names {
-        if seen.seen_before(name)? {
-            return Ok(false);
-        }
-    }
-    Ok(true)
 }

@@ -1,24 +1,23 @@
 //! What is wrong with the namespaces of a copy.
 
-ghost use Rattle.std.specs.Prelude.{◌≡◌, flat_map, option_and_then, option_map, slice_get};
+ghost use Rattle.std.specs.Prelude.{◌≡◌, ◌++◌, filter_map, flat_map, option_and_then, option_map, slice_get};
 ghost use Rattle.cbor_view.specs.PartialItem.{partial_items};
 ghost use Rattle.cbor_view.specs.PartialView.{partial_item};
 ghost use Rattle.cbor_view.specs.PartialItems.{partial_items_left};
 ghost use Rattle.cbor_view.specs.PartialPairs.{partial_pairs_left};
 ghost use Rattle.mdoc_outside.specs.declared.key_name.KeyName.TheVariants as keys;
-ghost use Rattle.doc_store.specs.Faults.{entries_faults, first_fault, item_faults, items_faults, listed, name_faults, space_faults, space_items, space_value, spaces_faults};
+ghost use Rattle.doc_store.specs.Faults.{entries_faults, first_fault, items_faults, keys_in, listed, name_faults, repeated, space_faults, space_items, space_value, spaces_faults, with_text};
 ghost use Rattle.doc_store.specs.Found.{Finds};
-ghost use Rattle.doc_store.specs.Placed.{ok_map, placed};
+ghost use Rattle.doc_store.specs.ItemOrRest.{ok_map, item_or_rest};
 
 use crate::StoreCheck;
 use crate::first_fault::{Fault, sooner};
 use crate::form_key::FormKey;
-use crate::item_faults::stored_item_fault;
-use crate::judge::{Judge, of_items};
 use crate::kind_faults::{name_limit, other_kind, text};
+use crate::limit_faults::{beyond_at, keys_beyond};
 use crate::limits::{MOST_ITEMS, MOST_NAMESPACES};
-use crate::passed::{keys_passed, passed_at};
-use crate::repeated::{items_again, keys_again};
+use crate::repeated::Repeated;
+use crate::stored_item::judged_item;
 use cbor_view::{PartialItems, PartialPairs, PartialView};
 use mdoc_outside::{KeyName, LimitName, Memory};
 use std::alloc::Global;
@@ -44,25 +43,21 @@ impl FormKey for NameSpaces {
     }
 }
 
-/// A stored item.
-struct StoredItem;
-
-impl Judge for StoredItem {
-    ghost faults = { λ _. item_faults };
-
-    fn fault_of(&self, _alloc: Global, item: &PartialView<'_>) -> Result<Option<Fault>, Memory> {
-        Ok(stored_item_fault(item))
-    }
-}
-
 /// What is wrong with the items of a namespace.
-#[tactic(auto, using(crate::proofs::FirstFaults::first_joined))]
+#[tactic(auto, using(crate::proofs::FirstFaults::first_joined, crate::proofs::FirstFaults::one_more, crate::proofs::FirstFaults::sooner_none))]
 fn items_fault(alloc: Global, items: PartialItems<'_>) -> Result<Option<Fault>, Memory>
     ensures { Finds result (items_faults (partial_items_left items.entry)) }
 {
-    let of_each = of_items(&StoredItem, alloc, items)?;
-    let again = items_again(alloc, items)?;
-    Ok(sooner(of_each, again))
+    let mut names = Repeated::new(alloc);
+    let mut found = None;
+    for item in items {
+        let (own, name) = judged_item(&item);
+        found = sooner(found, own);
+        if let Some(name) = name {
+            names.take(name, &item)?;
+        }
+    }
+    Ok(sooner(found, names.first()))
 }
 
 /// The same, of the value that should be their array.
@@ -101,21 +96,26 @@ fn space_fault(
     Ok(sooner(name_fault(name), of_value))
 }
 
-/// What is wrong with each namespace.
-#[tactic(auto, using(crate::proofs::FirstFaults::one_more, crate::proofs::FirstFaults::sooner_none))]
+/// What is wrong with each namespace, and with their names.
+#[tactic(auto, using(crate::proofs::FirstFaults::first_joined, crate::proofs::FirstFaults::one_more, crate::proofs::FirstFaults::sooner_none))]
 fn of_spaces(alloc: Global, entries: PartialPairs<'_>) -> Result<Option<Fault>, Memory>
-    ensures { Finds result (flat_map space_faults (partial_pairs_left entries.entry)) }
+    ensures { Finds result (flat_map space_faults (partial_pairs_left entries.entry)
+        ++ repeated (filter_map with_text (keys_in (partial_pairs_left entries.entry)))) }
 {
+    let mut names = Repeated::new(alloc);
     let mut found = None;
-    for (name, value) in entries {
-        found = sooner(found, space_fault(alloc, &name, value)?);
+    for (key, value) in entries {
+        found = sooner(found, space_fault(alloc, &key, value)?);
+        if let Some(name) = text(&key) {
+            names.take(name, &key)?;
+        }
     }
-    Ok(found)
+    Ok(sooner(found, names.first()))
 }
 
 /// The item at a place of an array, or how many places lie beyond it.
 fn item_or_beyond<'a>(items: PartialItems<'a>, place: usize) -> Result<PartialView<'a>, usize>
-    ensures { ok_map partial_item result ≡ placed (partial_items_left items.entry) place }
+    ensures { ok_map partial_item result ≡ item_or_rest (partial_items_left items.entry) place }
 {
     let mut before = place;
     for item in items {
@@ -133,7 +133,7 @@ fn in_value_or_beyond<'a>(
     place: usize,
 ) -> Result<PartialView<'a>, usize>
     ensures { ok_map partial_item result
-        ≡ placed (listed (option_and_then partial_items (option_map partial_item value.entry))) place }
+        ≡ item_or_rest (listed (option_and_then partial_items (option_map partial_item value.entry))) place }
 {
     let Some(value) = value else {
         return Err(place);
@@ -166,9 +166,8 @@ fn entries_fault(alloc: Global, entries: PartialPairs<'_>) -> Result<Option<Faul
     ensures { Finds result (entries_faults (partial_pairs_left entries.entry)) }
 {
     let of_each = of_spaces(alloc, entries)?;
-    let again = keys_again(alloc, entries)?;
-    let spaces = keys_passed(entries, LimitName::Namespaces, MOST_NAMESPACES);
+    let spaces = keys_beyond(entries, LimitName::Namespaces, MOST_NAMESPACES);
     let past = item_of_all(entries, MOST_ITEMS);
-    let items = passed_at(LimitName::Items, MOST_ITEMS, past);
-    Ok(sooner(sooner(sooner(of_each, again), spaces), items))
+    let items = beyond_at(LimitName::Items, MOST_ITEMS, past);
+    Ok(sooner(sooner(of_each, spaces), items))
 }

@@ -2,13 +2,12 @@
 
 ghost use Rattle.std.specs.Prelude.{◌≡◌, ◌&&◌, nat_le, length, option_map};
 ghost use Rattle.cbor_view.specs.Items.{left};
-ghost use Rattle.cbor_view.specs.Pairs.{pairs_left};
 ghost use Rattle.cbor_view.specs.View.{part};
 ghost use Rattle.doc_store.specs.Parts.{items_within};
 ghost use Rattle.doc_store.specs.Store.{name_in};
 
 use crate::limits::MOST_NAME_BYTES;
-use cbor_view::{Items, Pairs, View};
+use cbor_view::{Items, View};
 
 /// A name: a text that is not too long.
 pub(crate) fn read_name<'a>(value: &View<'a>) -> Option<&'a str>
@@ -45,18 +44,4 @@ fn is_count_within(items: Items<'_>, least: usize, most: usize) -> bool
         count += 1;
     }
     least <= count
-}
-
-/// Whether a map has so many pairs at most.
-pub(crate) fn is_pair_count_within(pairs: Pairs<'_>, most: usize) -> bool
-    ensures { result ≡ nat_le (length (pairs_left pairs.entry)) most }
-{
-    let mut count = 0;
-    for _pair in pairs {
-        if count == most {
-            return false;
-        }
-        count += 1;
-    }
-    true
 }

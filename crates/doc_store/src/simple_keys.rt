@@ -9,6 +9,7 @@ use crate::StoreCheck;
 use crate::first_fault::Fault;
 use crate::form_key::FormKey;
 use crate::kind_faults::{boolean, fault, name_limit, other_kind, text, uint};
+use crate::limits::{KEY_NUMBERS_END, MOST_AUTH, SIGNATURE_PARTS, VERSION};
 use cbor_view::PartialView;
 use mdoc_outside::{KeyName, Memory};
 use std::alloc::Global;
@@ -32,7 +33,7 @@ fn version_fault(value: &PartialView<'_>) -> Option<Fault>
     ensures { result ≡ first_fault (version_faults (partial_item value.now)) }
 {
     match uint(value) {
-        Some(1) => None,
+        Some(VERSION) => None,
         Some(_) => Some(fault(StoreCheck::Version, value)),
         None => other_kind(StoreCheck::Field(KeyName::Version), value),
     }
@@ -82,7 +83,7 @@ fn auth_fault(value: &PartialView<'_>) -> Option<Fault>
 {
     let check = StoreCheck::Field(KeyName::Auth);
     match uint(value) {
-        Some(number) if number <= 1 => None,
+        Some(number) if number <= MOST_AUTH => None,
         Some(_) => Some(fault(check, value)),
         None => other_kind(check, value),
     }
@@ -108,7 +109,7 @@ fn device_key_fault(value: &PartialView<'_>) -> Option<Fault>
 {
     let check = StoreCheck::Field(KeyName::Key);
     match uint(value) {
-        Some(number) if number < 1 << 32 => None,
+        Some(number) if number < KEY_NUMBERS_END => None,
         Some(_) => Some(fault(check, value)),
         None => other_kind(check, value),
     }
@@ -158,7 +159,7 @@ fn issuer_auth_fault(value: &PartialView<'_>) -> Option<Fault>
 {
     let check = StoreCheck::Field(KeyName::IssuerAuth);
     match value.count() {
-        Some(4) => None,
+        Some(parts) if parts == SIGNATURE_PARTS as u64 => None,
         Some(_) => Some(fault(check, value)),
         None => other_kind(check, value),
     }

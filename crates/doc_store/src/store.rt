@@ -6,58 +6,20 @@ ghost use Rattle.mdoc_outside.specs.OptionSteps.{each};
 ghost use Rattle.doc_store.specs.Document.{document_of};
 ghost use Rattle.doc_store.specs.Held.{IsAt, document_found, document_place};
 ghost use Rattle.doc_store.specs.Store.{document, store};
-ghost use Rattle.doc_store.specs.FormFault.{Tells};
-ghost use Rattle.doc_store.specs.Refusals.{IsFault};
 
 use crate::StoreFault;
 use crate::document::Document;
-use crate::document_form::{read_doc_types, read_documents, read_version};
-use crate::form_fault::FormFault;
+use crate::document_fields::read_documents;
 use crate::form_faults::first_fault_of;
 use crate::listing::{count_of, item_at};
-use crate::names::are_distinct;
 use cbor_view::{Items, View};
-use mdoc_outside::Memory;
 use std::alloc::Global;
-
-/// Whether a file spells a store.
-#[tactic(auto, unfolding(crate::specs::Store::store))]
-fn check_form(alloc: Global, bytes: &[u8]) -> Result<(), FormFault>
-    ensures { Tells result (is_some (store bytes.now)) }
-{
-    let Ok(file) = View::read(bytes) else {
-        return Err(FormFault::Outside);
-    };
-    if read_version(&file).is_none() {
-        return Err(FormFault::Outside);
-    }
-    let Some(documents) = read_documents(&file) else {
-        return Err(FormFault::Outside);
-    };
-    match read_doc_types(alloc, documents) {
-        Ok(types) if are_distinct(alloc, &types)? => Ok(()),
-        Ok(_) | Err(FormFault::Outside) => Err(FormFault::Outside),
-        Err(FormFault::Memory) => Err(FormFault::Memory),
-    }
-}
-
-/// The first fault of a file that spells no store.
-fn fault_of(alloc: Global, bytes: &[u8]) -> StoreFault
-    requires { store bytes.now ≡ None }
-    ensures { IsFault result bytes.now }
-{
-    match first_fault_of(alloc, bytes) {
-        Ok(Some(fault)) => StoreFault::Form(fault),
-        Ok(None) => unreachable!(),
-        Err(Memory) => StoreFault::Memory,
-    }
-}
 
 /// A store: the documents of a holder, as their bytes spell them. It keeps the bytes, and looks at
 /// them anew in each call.
 #[derive(Clone, Copy)]
 pub struct Store<'a> {
-    bytes: &'a [u8],
+    pub(crate) bytes: &'a [u8],
     ghost spelled: { is_some (store bytes.now) ≡ true },
 }
 
@@ -68,10 +30,9 @@ impl<'a> Store<'a> {
     pub fn read(alloc: Global, bytes: &'a [u8]) -> Result<Store<'a>, StoreFault>
         ensures { ReadsStore result bytes.now }
     {
-        match check_form(alloc, bytes) {
-            Ok(()) => Ok(Store { bytes }),
-            Err(FormFault::Outside) => Err(fault_of(alloc, bytes)),
-            Err(FormFault::Memory) => Err(StoreFault::Memory),
+        match first_fault_of(alloc, bytes)? {
+            None => Ok(Store { bytes }),
+            Some(fault) => Err(StoreFault::Form(fault)),
         }
     }
 
@@ -97,7 +58,7 @@ impl<'a> Store<'a> {
     pub fn find(&self, doc_type: &str) -> Option<Document<'a>>
         ensures found { option_map document_of result
             ≡ document_found (documents_in self.now) doc_type.now }
-        ensures placed { MatchOption result
+        ensures place { MatchOption result
             (document_place (documents_in self.now) doc_type.now ≡ None)
             (λ d. IsAt (documents_in self.now) doc_type.now (document_of d)) }
     {
@@ -111,7 +72,7 @@ impl<'a> Store<'a> {
     }
 
     fn stored_documents(&self) -> Items<'a>
-        ensures said { each document (left result) ≡ Some (documents_in self.now) }
+        ensures given { each document (left result) ≡ Some (documents_in self.now) }
         ensures few { length (left result) ≤ 64 }
         ensures count { length (documents_in self.now) ≡ length (left result) }
     {

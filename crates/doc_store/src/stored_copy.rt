@@ -9,7 +9,7 @@ ghost use Rattle.mdoc_outside.specs.OptionSteps.{each};
 ghost use Rattle.doc_store.specs.Held.{held};
 ghost use Rattle.doc_store.specs.Store.{copy, namespace, spread};
 
-use crate::copy_form::{read_issuer_auth, read_key, read_spaces, read_used};
+use crate::copy_fields::{read_issuer_auth, read_key, read_spaces, read_used};
 use crate::copy_items::CopyItems;
 use crate::held_item::find_in_space;
 use cbor_view::{Pairs, View};

@@ -43,7 +43,7 @@ const DOCUMENT_HEAD: &[u8] = b"\xa3\x67docType\x63";
 const DOCUMENT_END: &[u8] = b"\x64auth\x01\x66copies\x81\
 \xa4\x63key\x00\x64used\xf4\x6aissuerAuth\x84\x40\xa0\xf6\x40\x6anameSpaces\xa0";
 
-/// Bytes one behind the other.
+/// Bytes one after another.
 fn joined(alloc: Global, parts: &[&[u8]]) -> Result<Vec<u8>, Fail> {
     let mut all = Vec::new(alloc);
     for part in parts {
@@ -136,7 +136,7 @@ fn chooses_the_first_unused_copy(rt: HostRuntime) -> Result<(), Fail> {
     Ok(())
 }
 
-/// The items of a copy one behind the other, each behind its namespace and a colon.
+/// The items of a copy one after another, each after its namespace and a colon.
 fn shown(alloc: Global, copy: StoredCopy<'_>) -> Result<Vec<u8>, Fail> {
     let mut all = Vec::new(alloc);
     for (ns, raw) in copy.items() {
@@ -430,13 +430,13 @@ fn refuses_damaged_stores(rt: HostRuntime) -> Result<(), Fail> {
     Ok(())
 }
 
-/// Two damages of the store with one item: the fault that is told is the first in byte order.
+/// Two damages of the store with one item: the fault that is reported is the first in byte order.
 #[test]
 fn tells_the_first_of_two(rt: HostRuntime) -> Result<(), Fail> {
     let alloc = rt.alloc();
     let truncated = Cbor(CborKind::Truncated);
     let cases: [(&[u8], &[u8], usize, StoreCheck, usize); 6] = [
-        // a version of 2 before bytes that end, and a key number of another kind behind them
+        // a version of 2 before bytes that end, and a key number of another kind after them
         (b"version\x01", b"version\x02", 1, Version, 9),
         (b"\x63key\x00", b"\x63key\x20", 1, Field(KeyName::Key), 51),
         // in a map that ends too early, no field is missing
@@ -474,18 +474,18 @@ fn tells_the_first_of_two(rt: HostRuntime) -> Result<(), Fail> {
 fn keeps_the_limits(rt: HostRuntime) -> Result<(), Fail> {
     let alloc = rt.alloc();
     // documents, 16 and 17
-    let passed = Some((Limit(LimitName::Documents, 17), 1_093));
-    for (head, count, fault) in [(b"\x90", 16, None), (b"\x91", 17, passed)] {
+    let beyond = Some((Limit(LimitName::Documents, 17), 1_093));
+    for (head, count, fault) in [(b"\x90", 16, None), (b"\x91", 17, beyond)] {
         let front = joined(alloc, &[b"\xa2\x67version\x01\x69documents", head])?;
         let bytes = numbered(alloc, &front, DOCUMENT_HEAD, DOCUMENT_END, count)?;
         assert_eq!(rt; fault_of(alloc, &bytes), fault, "{count} documents");
     }
     // copies, 64, 65 and none
-    let passed = Some((Limit(LimitName::Copies, 65), 2_607));
+    let beyond = Some((Limit(LimitName::Copies, 65), 2_607));
     let none = Some((Field(KeyName::Copies), 45));
     for (head, count, fault) in [
         (b"\x98\x40", 64, None),
-        (b"\x98\x41", 65, passed),
+        (b"\x98\x41", 65, beyond),
         (b"\x98\x00", 0, none),
     ] {
         let mut bytes = joined(alloc, &[DOCUMENT, head])?;
@@ -495,8 +495,8 @@ fn keeps_the_limits(rt: HostRuntime) -> Result<(), Fail> {
         assert_eq!(rt; fault_of(alloc, &bytes), fault, "{count} copies");
     }
     // namespaces, 16 and 17
-    let passed = Some((Limit(LimitName::Namespaces, 17), 166));
-    for (head, count, fault) in [(b"\xb0", 16, None), (b"\xb1", 17, passed)] {
+    let beyond = Some((Limit(LimitName::Namespaces, 17), 166));
+    for (head, count, fault) in [(b"\xb0", 16, None), (b"\xb1", 17, beyond)] {
         let spaces = numbered(alloc, head, b"\x63", b"\x80", count)?;
         let bytes = joined(alloc, &[DOCUMENT, b"\x81", COPY_HEAD, &spaces])?;
         assert_eq!(rt; fault_of(alloc, &bytes), fault, "{count} namespaces");
@@ -510,7 +510,7 @@ fn keeps_the_limit_of_items(rt: HostRuntime) -> Result<(), Fail> {
     let alloc = rt.alloc();
     let before = b"\xd8\x18\x58\x39\xa4\x68digestID\x00\x66random\x41\x01\x71elementIdentifier\x63";
     let after = b"\x6celementValue\x61x";
-    for (head, count, passed) in [
+    for (head, count, beyond) in [
         (b"\xa1\x61m\x99\x02\x00", 512, None),
         (b"\xa1\x61m\x99\x02\x01", 513, Some(31_323)),
         (b"\xa2\x61m\x99\x01\xff", 511, None),
@@ -522,7 +522,7 @@ fn keeps_the_limit_of_items(rt: HostRuntime) -> Result<(), Fail> {
             spaces.extend_from_slice(ITEM)?;
         }
         let bytes = joined(alloc, &[DOCUMENT, b"\x81", COPY_HEAD, &spaces])?;
-        let fault = match passed {
+        let fault = match beyond {
             Some(at) => Some((Limit(LimitName::Items, 513), at)),
             None => None,
         };

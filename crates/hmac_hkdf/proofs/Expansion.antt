@@ -1,10 +1,10 @@
 -- Lemmas on the blocks of an expansion, and on a block written where there may be less room.
-use Rattle.std.proofs.Common.{◌≡◌, ℕ, zero, suc, ◌+◌, ◌-◌, ◌*◌, ◌<◌, ◌≤◌, min, List, [], ◌∷◌, ◌++◌, length, take, drop, arith, refl, rules, add-one, length-append, length-take, sym, ◌∙◌}
+use Rattle.std.proofs.Common.{◌≡◌, ℕ, zero, suc, ◌+◌, ◌-◌, ◌*◌, ◌<◌, ◌≤◌, min, List, [], ◌∷◌, ◌++◌, length, take, drop, arith, refl, rules, add-one, length-append, sym, ◌∙◌}
 use Rattle.std.specs.Int.{div_ceil}
 use Rattle.std.proofs.lemmas.List.{places, same_lists, take_all}
 use Rattle.sha2.proofs.Facts256.{length-sha256}
 use Rattle.hmac_hkdf.specs.Mac.{hmac}
-use Rattle.hmac_hkdf.specs.Derivation.{expansion_block, expansion_blocks, hkdf, hkdf_expand, hkdf_extract}
+use Rattle.hmac_hkdf.specs.Derivation.{expansion_block, expansion_blocks, hkdf_expand}
 use borrow.Rule.Slice.PartMut.{put_mid}
 
 -- what a list holds after a write of as much of a block as there is room for
@@ -32,7 +32,7 @@ length-expansion_blocks prk info (suc n) =
           (expansion_block prk info n ++ info ++ suc n ∷ []),
     ))
 
--- one block more behind those that are written
+-- one block more after those that are written
 grown : (out done block : List ℕ) (at : ℕ) → length done ≡ at → at < length out → length block ≡ 32
     → take at out ≡ take (length out) done
     → take (at + 32) (take (length out) (take at out ++ block ++ drop (at + 32) out))
@@ -63,10 +63,3 @@ pub all_written : (prk info out : List ℕ) (n : ℕ) → length out ≤ n * 32
 unfolding hkdf_expand
 all_written prk info out n past is same =
     rw (← is) (sym (take_all (n * 32) out past) ∙ same)
-
-pub length-hkdf : (ikm salt info : List ℕ) (n : ℕ) → length (hkdf ikm salt info n) ≡ n
-unfolding hkdf hkdf_expand
-length-hkdf ikm salt info n =
-    let blocks = expansion_blocks (hkdf_extract salt ikm) info (div_ceil n 32) in
-    length-take n blocks
-    ∙ omega (arith, length-expansion_blocks (hkdf_extract salt ikm) info (div_ceil n 32))

@@ -13,7 +13,7 @@ unfoldable pub expansion_block : List ℕ → List ℕ → ℕ → List ℕ
 expansion_block prk info zero = []
 expansion_block prk info (suc n) = hmac prk (expansion_block prk info n ++ info ++ suc n ∷ [])
 
--- T(1) to T(n), one behind the other (section 2.3)
+-- T(1) to T(n), one after another (section 2.3)
 unfoldable pub expansion_blocks : List ℕ → List ℕ → ℕ → List ℕ
 expansion_blocks prk info zero = []
 expansion_blocks prk info (suc n) = expansion_blocks prk info n ++ expansion_block prk info (suc n)

@@ -116,7 +116,7 @@ month_of-bounds day h =
 
 -- ---- the day of the month
 
--- how many days a day is behind another
+-- how many days a day is after another
 days_between : (first day : ℤ) → first ≤ℤ day → first +ℤ pos (unsigned_abs (day -ℤ first)) ≡ day
 days_between first day h =
     let n = up day + down first - (down day + up first) in

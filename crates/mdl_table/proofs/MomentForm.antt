@@ -93,7 +93,7 @@ four_of_twos century year h k =
 pub four_then : (century year : ℕ) (text : List ℕ) → century < 100 → year < 100 → two_digits century ++ (two_digits year ++ text) ≡ four_digits (100 * century + year) ++ text
 four_then century year text h k = ap (λ (years : List ℕ). years ++ text) (sym (four_of_twos century year h k))
 
--- what stands at the front, and then the whole of what stands behind
+-- what stands at the front, and then the whole of what follows
 pub then_two : {text rest whole : List ℕ} (n : ℕ) → text ≡ two_digits n ++ rest → rest ≡ whole → text ≡ two_digits n ++ whole
 then_two n front behind = front ∙ ap (λ (r : List ℕ). two_digits n ++ r) behind
 

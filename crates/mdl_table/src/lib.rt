@@ -23,7 +23,7 @@ pub use moment::moment_of;
 pub use moment_text::text_of;
 pub use row::Row;
 pub use row_fault::RowFault;
-pub use sharing::crosses;
+pub use sharing::types_are_send_and_sync;
 pub use table::row_of;
 
 #[cfg(test)]

@@ -7,8 +7,8 @@ fn is_send<T: Send>() {}
 
 fn is_sync<T: Sync>() {}
 
-/// Rows and their faults may be handed to another thread, and shared with it.
-pub fn crosses() {
+/// Rows and their faults are Send and Sync.
+pub fn types_are_send_and_sync() {
     is_send::<Row>();
     is_sync::<Row>();
     is_send::<RowFault>();

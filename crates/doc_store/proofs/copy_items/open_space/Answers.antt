@@ -6,4 +6,4 @@ use Rattle.std.proofs.Common.{sym}
 
 pub returns : goal.returns
 returns c =
-    opened (part c.args.name.now) (part c.args.list.now) c.in-Some-Some.own.now (left c.in-Some-Some.items) (sym c.in-Some-Some.ensures) (sym c.in-Some-Some.ensures'.placed) c.requires
+    opened (part c.args.name.now) (part c.args.list.now) c.in-Some-Some.own.now (left c.in-Some-Some.items) (sym c.in-Some-Some.ensures) (sym c.in-Some-Some.ensures'.place) c.requires

@@ -3,8 +3,8 @@ use Rattle.der_view.specs.Parts.{Part, AreParts, parts_at}
 use Rattle.der_view.proofs.Listing.{body-read, parts-are}
 use Rattle.der_view.proofs.der.Der.parts.Goals as goal
 
-pub returns-clause-placed : goal.returns-clause-placed
-returns-clause-placed c =
+pub returns-clause-place : goal.returns-clause-place
+returns-clause-place c =
     let make : List ℕ → Part = λ b. record { at = c.args.self.now.at + (length c.args.self.now.slice.now - length b); bytes = b } in
     ap (λ b. parts_at (make b)) (sym (body-read c.args.self.now.slice.now c.split.result.0 c.split.result.1.now c.split.ensures.read))
 

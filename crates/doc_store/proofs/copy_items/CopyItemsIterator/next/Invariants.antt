@@ -6,11 +6,11 @@ use Rattle.std.specs.List.{flat_map}
 use Rattle.cbor_view.specs.Pairs.{pairs_left}
 use Rattle.mdoc_outside.specs.OptionSteps.{each}
 use Rattle.doc_store.specs.CopyItems.{copy_items_left}
-use Rattle.doc_store.specs.InHand.{beside, parts_of}
+use Rattle.doc_store.specs.SpaceItems.{beside, parts_of}
 use Rattle.doc_store.specs.Store.{namespace, spread}
 use Rattle.doc_store.proofs.copy_items.CopyItemsIterator.next.Given as goal
 
--- what is in hand and the namespaces behind it are all that was left
+-- what is left of the namespace that was begun, and the namespaces after it, are all that was left
 abbrev pub invariant-spaces : goal.invariant-spaces
 invariant-spaces l =
     shadow (Utf8 l.ns) ×

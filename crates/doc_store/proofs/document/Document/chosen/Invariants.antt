@@ -8,7 +8,7 @@ use Rattle.doc_store.specs.Held.{is_unused}
 use Rattle.doc_store.specs.Store.{copy}
 use Rattle.doc_store.proofs.document.Document.chosen.Given as goal
 
--- the copies that were passed over are used: the first unused one is among those that are left
+-- the copies that were ignored are used: the first unused one is among those that are left
 abbrev pub invariant-loop-stored : goal.invariant-loop-stored
 invariant-loop-stored l =
     (goal.iterator-loop-stored).can_next l.stored-iterator ×

@@ -7,11 +7,11 @@ use Rattle.doc_store.proofs.Readers.{each_at, none_at}
 use Rattle.doc_store.proofs.document.Document.copy.Goals as goal
 
 pub unreachable-requires : goal.unreachable-requires
-unreachable-requires c = none_at copy (left c.stored_copies.result) _ c.args.n c.stored_copies.ensures.said c.requires (sym c.in-None.ensures)
+unreachable-requires c = none_at copy (left c.stored_copies.result) _ c.args.n c.stored_copies.ensures.given c.requires (sym c.in-None.ensures)
 
 pub invariant_of-result : goal.invariant_of-result
 invariant_of-result c =
-    record { spelled = (each_at copy no_copy (left c.stored_copies.result) _ c.args.n (part c.in-Some.stored) c.stored_copies.ensures.said (sym c.in-Some.ensures)).read }
+    record { spelled = (each_at copy no_copy (left c.stored_copies.result) _ c.args.n (part c.in-Some.stored) c.stored_copies.ensures.given (sym c.in-Some.ensures)).read }
 
 pub returns : goal.returns
-returns c = (each_at copy no_copy (left c.stored_copies.result) _ c.args.n (part c.in-Some.stored) c.stored_copies.ensures.said (sym c.in-Some.ensures)).said
+returns c = (each_at copy no_copy (left c.stored_copies.result) _ c.args.n (part c.in-Some.stored) c.stored_copies.ensures.given (sym c.in-Some.ensures)).given

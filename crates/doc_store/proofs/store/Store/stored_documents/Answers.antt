@@ -7,17 +7,17 @@ use Rattle.doc_store.proofs.store.Store.stored_documents.Goals as goal
 
 pub unreachable-requires : goal.unreachable-requires
 unreachable-requires c =
-    let said = store_documents c.args.self.now.bytes.now (part c.in-Ok.file) c.in-Ok.ensures.whole c.args.self.now.spelled in
-    let impossible = rw (← c.in-None.ensures) at said in
+    let given = store_documents c.args.self.now.bytes.now (part c.in-Ok.file) c.in-Ok.ensures.whole c.args.self.now.spelled in
+    let impossible = rw (← c.in-None.ensures) at given in
     cc
 
 pub unreachable-requires-in-Err : goal.unreachable-requires-in-Err
 unreachable-requires-in-Err c = store_spelled c.args.self.now.bytes.now c.in-Err.field-0 c.in-Err.ensures.whole c.args.self.now.spelled
 
-pub returns-clause-said : goal.returns-clause-said
-returns-clause-said c =
-    let said = store_documents c.args.self.now.bytes.now (part c.in-Ok.file) c.in-Ok.ensures.whole c.args.self.now.spelled in
-    rw (← c.in-Some.ensures) at said
+pub returns-clause-given : goal.returns-clause-given
+returns-clause-given c =
+    let given = store_documents c.args.self.now.bytes.now (part c.in-Ok.file) c.in-Ok.ensures.whole c.args.self.now.spelled in
+    rw (← c.in-Some.ensures) at given
 
 pub returns-clause-count : goal.returns-clause-count
-returns-clause-count c = each_length document (left c.in-Some.documents) _ (returns-clause-said c)
+returns-clause-count c = each_length document (left c.in-Some.documents) _ (returns-clause-given c)

@@ -1,0 +1,17 @@
+-- What contracts see of the parts of the to-be-signed part.
+use Rattle.der_view.specs.Der.{part}
+use Rattle.der_view.specs.PartsLeft.{left}
+use Rattle.cert_view.specs.Tbs.{Layout}
+use Rattle.cert_view.specs.declared.tbs_parts.TbsParts.{TbsParts}
+
+abbrev pub layout_of : TbsParts → Layout
+layout_of l = record {
+  version = part l.version;
+  serial = part l.serial;
+  algorithm = part l.algorithm;
+  issuer = part l.issuer;
+  validity = part l.validity;
+  subject = part l.subject;
+  key = part l.key;
+  others = left l.others;
+}
