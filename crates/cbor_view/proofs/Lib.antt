@@ -17,6 +17,8 @@ pub mod FaultsRead
 pub mod FaultsDue
 pub mod FaultsFound
 pub mod FirstFaultLaws
+pub mod PartialStands
+pub mod PartsInRow
 pub mod PartialLaws
 pub mod ReadParts
 pub mod WrittenParts

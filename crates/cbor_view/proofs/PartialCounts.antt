@@ -14,7 +14,7 @@ use Rattle.cbor_view.proofs.PartialFaults.{partial-cut, partial-whole}
 use Rattle.cbor_view.proofs.PartialParts.{whole-head}
 use Rattle.cbor_view.proofs.PartialOpening.{begins, array-is, no-array, array-closed}
 
-parts-counted : (n : ℕ) (p : Part) → length (parts_at n p) ≡ n
+pub parts-counted : (n : ℕ) (p : Part) → length (parts_at n p) ≡ n
 unfolding parts_at
 parts-counted zero p = refl
 parts-counted (suc n) p = ap suc (parts-counted n (after_first p))

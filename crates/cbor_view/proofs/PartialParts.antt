@@ -66,7 +66,7 @@ pub record FirstIs (d at : ℕ) (f behind rest : List ℕ) : Type 0 where
   pub first : first_part (record { at = at; bytes = f ++ behind }) ≡ record { at = at; bytes = f }
   pub after : after_first (record { at = at; bytes = f ++ behind }) ≡ record { at = at + length f; bytes = behind }
 
-first-is : (d at : ℕ) (t : Tree) (f behind rest : List ℕ) → Spelled t f → levels t ≤ d → d ≤ 32 → FirstIs d at f behind rest
+pub first-is : (d at : ℕ) (t : Tree) (f behind rest : List ℕ) → Spelled t f → levels t ≤ d → d ≤ 32 → FirstIs d at f behind rest
 first-is d at t f behind rest s l m =
     let p : Part = record { at = at; bytes = (f ++ behind) ++ rest } in
     let a : Part = record { at = at; bytes = f } in
@@ -82,7 +82,7 @@ first-is d at t f behind rest s l m =
       after = ap (λ (n : ℕ). record { at = at + n; bytes = drop (size (f ++ behind)) (f ++ behind) }) i.size_is ∙ ap (λ (y : List ℕ). record { at = at + length f; bytes = y }) i.rest_is;
     }
 
-parts-more : (n : ℕ) (p : Part) → parts_at (suc n) p ≡ first_part p ∷ parts_at n (after_first p)
+pub parts-more : (n : ℕ) (p : Part) → parts_at (suc n) p ≡ first_part p ∷ parts_at n (after_first p)
 unfolding parts_at
 parts-more n p = refl
 
@@ -107,7 +107,7 @@ all-whole (more t ts) d at body rest s l m =
     subst (λ (x : List ℕ). until_broken (partial_item_at d) (item_first d) (suc (count ts)) (record { at = at; bytes = x ++ rest }) ≡ map (λ q. whole q) (parts_at (suc (count ts)) (record { at = at; bytes = x }))) (sym s.whole)
     (more-until d at (count ts) s.front s.rest rest (first-is d at t s.front s.rest rest s.first a m) (all-whole ts d (at + length s.front) s.rest rest s.second b m))
 
-entries-more : (n : ℕ) (p : Part) → entries_at (suc n) p ≡ (first_part p, first_part (after_first p)) ∷ entries_at n (after_first (after_first p))
+pub entries-more : (n : ℕ) (p : Part) → entries_at (suc n) p ≡ (first_part p, first_part (after_first p)) ∷ entries_at n (after_first (after_first p))
 unfolding entries_at
 entries-more n p = refl
 

@@ -14,3 +14,4 @@ pub mod PartialView
 pub mod PartialItems
 pub mod PartialPairs
 pub mod PartialHead
+pub mod PartialSpelling

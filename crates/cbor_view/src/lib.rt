@@ -27,7 +27,8 @@ pub use items::Items;
 pub use key::Key;
 pub use laws::{
     faultless_is_item, first_fault, front_item_is_whole, item_is_whole, no_prefix, one_tree,
-    reads_spelled, same_first_fault, shortest_least, shortest_spells, within_within,
+    partial_item_stands, reads_spelled, same_first_fault, shortest_least, shortest_spells,
+    whole_item_parts, whole_partial_parts, within_within,
 };
 pub use pairs::Pairs;
 pub use partial_items::PartialItems;
