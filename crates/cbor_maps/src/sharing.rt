@@ -7,7 +7,7 @@ fn is_send<T: Send>() {}
 fn is_sync<T: Sync>() {}
 
 /// Maps that were read and maps that are written may be handed to another thread, and shared with it.
-pub fn crosses() {
+pub fn types_are_send_and_sync() {
     is_send::<NamedMap<'static>>();
     is_sync::<NamedMap<'static>>();
     is_send::<MapBuild>();

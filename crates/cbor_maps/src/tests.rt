@@ -1,8 +1,8 @@
 //! Maps that are read and written: each call once.
 
 use crate::{
-    MapBuild, MapFault, NamedMap, crosses, labelled_map_is_spelled, named_map_is_spelled,
-    written_field_is_read, written_label_is_read,
+    MapBuild, MapFault, NamedMap, labelled_map_is_spelled, named_map_is_spelled,
+    types_are_send_and_sync, written_field_is_read, written_label_is_read,
 };
 use cbor_view::View;
 use mdoc_outside::KeyName;
@@ -46,7 +46,7 @@ fn reads_each_kind(rt: HostRuntime) -> Result<(), Fail> {
     assert_eq!(rt; encoded, b"\x00".as_slice());
     let status = map.item(KeyName::Status).map_err(|_| "status")?;
     assert_eq!(rt; status.span(), (21, 23));
-    crosses();
+    types_are_send_and_sync();
     Ok(())
 }
 

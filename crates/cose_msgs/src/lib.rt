@@ -23,7 +23,7 @@ pub use cose_key::CoseKey;
 pub use key_fault::KeyFault;
 pub use laws::{context_is_told_apart, mac_determines_parts, signature_determines_parts};
 pub use mac0::Mac0;
-pub use sharing::crosses;
+pub use sharing::types_are_send_and_sync;
 pub use sign1::Sign1;
 pub use structures::{mac_bytes, signed_bytes};
 pub use written::{write_key, write_mac0, write_sign1};

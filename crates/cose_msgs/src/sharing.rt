@@ -7,7 +7,7 @@ fn is_send<T: Send>() {}
 fn is_sync<T: Sync>() {}
 
 /// Messages and keys may be handed to another thread, and shared with it.
-pub fn crosses() {
+pub fn types_are_send_and_sync() {
     is_send::<Sign1<'static>>();
     is_sync::<Sign1<'static>>();
     is_send::<Mac0<'static>>();

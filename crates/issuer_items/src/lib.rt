@@ -14,5 +14,5 @@ mod written;
 pub use item::Item;
 pub use item_fault::ItemFault;
 pub use laws::written_item_is_read;
-pub use sharing::crosses;
+pub use sharing::types_are_send_and_sync;
 pub use written::write_item;

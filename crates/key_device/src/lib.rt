@@ -42,7 +42,7 @@ pub use made::Made;
 pub use point::Point;
 pub use recorder::Recorder;
 pub use replay_device::ReplayDevice;
-pub use sharing::crosses;
+pub use sharing::types_are_send_and_sync;
 pub use tape_fault::TapeFault;
 pub use told::Told;
 pub use toy_device::ToyDevice;

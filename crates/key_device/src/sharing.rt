@@ -7,7 +7,7 @@ fn is_sync<T: Sync>() {}
 
 /// Holds no work: that it compiles shows that the devices, a recorder of such a device, and
 /// exchanges may move to another thread and be shared between threads.
-pub fn crosses<D: Send + Sync>() {
+pub fn types_are_send_and_sync<D: Send + Sync>() {
     is_send::<Exchange>();
     is_sync::<Exchange>();
     is_send::<Recorder<D>>();

@@ -202,7 +202,7 @@ fn tapes_are_read_strictly(rt: HostRuntime) -> Result<(), Fail> {
 
 #[test]
 fn devices_cross_threads() {
-    crosses::<ToyDevice>();
+    types_are_send_and_sync::<ToyDevice>();
     followed_plan_over_its_talk::<u8>();
     followed_plan_over_its_sources::<u8>();
     followed_plan_has_one_outcome::<u8>();

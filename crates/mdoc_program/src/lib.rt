@@ -55,7 +55,7 @@ pub use role::Role;
 pub use rule::Rule;
 pub use rule_fault::RuleFault;
 pub use rules::Rules;
-pub use sharing::rules_and_requests_cross_threads;
+pub use sharing::types_are_send_and_sync;
 pub use status::Status;
 pub use text_pattern::TextPattern;
 pub use wish::Wish;

@@ -7,7 +7,7 @@ fn is_sync<T: Sync>() {}
 
 /// Holds no work: that it compiles shows that `Rules` and `RequestDraft` may move to another thread and be shared
 /// between threads.
-pub fn rules_and_requests_cross_threads() {
+pub fn types_are_send_and_sync() {
     is_send::<Rules>();
     is_sync::<Rules>();
     is_send::<Rule>();
