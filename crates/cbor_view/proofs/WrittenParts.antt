@@ -37,9 +37,6 @@ tree-shortest t fits nesting = ap tree_or_null (reads-shortest t fits nesting)
 pub cbor-piece : (bytes : List ℕ) → IsPiece 32 bytes → cbor bytes ≡ Ok (record { at = 0; bytes = bytes })
 cbor-piece bytes p = ap (part_of bytes) (spells-reads bytes p.item (record { spelled = p.spelled; nesting = p.nesting }))
 
-pub cbor-shortest : (t : Tree) → Fits t → levels t ≤ 32 → cbor (shortest t) ≡ Ok (record { at = 0; bytes = shortest t })
-cbor-shortest t fits nesting = cbor-piece (shortest t) (piece-shortest 32 t fits nesting)
-
 -- ---- the pairs of a map
 
 -- each key and each value is one item
@@ -216,10 +213,3 @@ tag-written n at inner h =
     let front = shortest_head 6 n in
     ap (tag_behind (record { at = at; bytes = front ++ inner })) (typed-again (heads.Tag n) front inner (head-spelled 6 n h))
     ∙ ap (λ place. Some (n, record { at = place; bytes = inner })) (body-place at front inner)
-
-pub piece-tag : (d n : ℕ) (inner : List ℕ) → n < 2 ^ 64 → IsPiece d inner → IsPiece (d + 1) (tag_bytes n inner)
-piece-tag d n inner h p = record {
-  item = Tag n p.item;
-  spelled = record { front = shortest_head 6 n; rest = inner; first = head-spelled 6 n h; second = p.spelled; whole = refl };
-  nesting = let nesting = p.nesting in omega arith;
-}
