@@ -19,29 +19,29 @@ read x rest = Ok (x, rest)
 
 -- ---- one level
 
-deep-started : (d : ℕ) (h : Head) (front rest : List ℕ) → HeadOf h front → item_at (suc d) (front ++ rest) ≡ behind (Some (item_at d)) (length (front ++ rest)) h rest
+pub deep-started : (d : ℕ) (h : Head) (front rest : List ℕ) → HeadOf h front → item_at (suc d) (front ++ rest) ≡ behind (Some (item_at d)) (length (front ++ rest)) h rest
 deep-started d h front rest is = item-deep d (front ++ rest) ∙ ap (behind_head (Some (item_at d)) (length (front ++ rest))) (typed-again h front rest is)
 
-items-first : (one : Reader Tree) (n : ℕ) (bytes : List ℕ) (s : Stop) → one bytes ≡ Err s → 0 < n → items_at one n bytes ≡ Err s
+pub items-first : (one : Reader Tree) (n : ℕ) (bytes : List ℕ) (s : Stop) → one bytes ≡ Err s → 0 < n → items_at one n bytes ≡ Err s
 unfolding items_at
 items-first one zero bytes s e h = absurd (omega arith)
 items-first one (suc n) bytes s e h = rw e refl
 
-items-later : (one : Reader Tree) (n : ℕ) (bytes mid : List ℕ) (t : Tree) (s : Stop) → one bytes ≡ read t mid → items_at one n mid ≡ Err s → items_at one (suc n) bytes ≡ Err s
+pub items-later : (one : Reader Tree) (n : ℕ) (bytes mid : List ℕ) (t : Tree) (s : Stop) → one bytes ≡ read t mid → items_at one n mid ≡ Err s → items_at one (suc n) bytes ≡ Err s
 unfolding items_at
 items-later one n bytes mid t s e f = rw e (rw f refl)
 
-pairs-key : (one : Reader Tree) (n : ℕ) (bytes : List ℕ) (s : Stop) → one bytes ≡ Err s → 0 < n → pairs_at one n bytes ≡ Err s
+pub pairs-key : (one : Reader Tree) (n : ℕ) (bytes : List ℕ) (s : Stop) → one bytes ≡ Err s → 0 < n → pairs_at one n bytes ≡ Err s
 unfolding pairs_at
 pairs-key one zero bytes s e h = absurd (omega arith)
 pairs-key one (suc n) bytes s e h = rw e refl
 
-pairs-value : (one : Reader Tree) (n : ℕ) (bytes mid : List ℕ) (t : Tree) (s : Stop) → one bytes ≡ read t mid → one mid ≡ Err s → 0 < n → pairs_at one n bytes ≡ Err s
+pub pairs-value : (one : Reader Tree) (n : ℕ) (bytes mid : List ℕ) (t : Tree) (s : Stop) → one bytes ≡ read t mid → one mid ≡ Err s → 0 < n → pairs_at one n bytes ≡ Err s
 unfolding pairs_at
 pairs-value one zero bytes mid t s e f h = absurd (omega arith)
 pairs-value one (suc n) bytes mid t s e f h = rw e (rw f refl)
 
-pairs-later : (one : Reader Tree) (n : ℕ) (bytes mid after : List ℕ) (k v : Tree) (s : Stop) → one bytes ≡ read k mid → one mid ≡ read v after → pairs_at one n after ≡ Err s → pairs_at one (suc n) bytes ≡ Err s
+pub pairs-later : (one : Reader Tree) (n : ℕ) (bytes mid after : List ℕ) (k v : Tree) (s : Stop) → one bytes ≡ read k mid → one mid ≡ read v after → pairs_at one n after ≡ Err s → pairs_at one (suc n) bytes ≡ Err s
 unfolding pairs_at
 pairs-later one n bytes mid after k v s e f g = rw e (rw f (rw g refl))
 

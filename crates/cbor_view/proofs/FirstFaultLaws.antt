@@ -152,10 +152,10 @@ ranked Deep = refl
 ranked BadText = refl
 ranked Trailing = refl
 
-same-rank : (a b : CborKind) → rank a ≤ rank b → rank b ≤ rank a → a ≡ b
+pub same-rank : (a b : CborKind) → rank a ≤ rank b → rank b ≤ rank a → a ≡ b
 same-rank a b h k = let e : rank a ≡ rank b = omega arith in sym (ranked a) ∙ ap of_rank e ∙ ranked b
 
-same-fault : (f g : CborFault) → f.kind ≡ g.kind → f.at ≡ g.at → f ≡ g
+pub same-fault : (f g : CborFault) → f.kind ≡ g.kind → f.at ≡ g.at → f ≡ g
 same-fault f g k n = ap (λ (x : CborKind). record { kind = x; at = f.at }) k ∙ ap (λ (m : ℕ). record { kind = g.kind; at = m }) n
 
 pub first-read : (bytes : List ℕ) (fault : CborFault) → AreBytes bytes → IsFirstFault bytes fault → reads bytes ≡ Err fault

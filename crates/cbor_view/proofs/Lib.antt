@@ -18,6 +18,7 @@ pub mod FaultsDue
 pub mod FaultsFound
 pub mod FirstFaultLaws
 pub mod PartialStands
+pub mod PartialOnly
 pub mod PartsInRow
 pub mod PartialLaws
 pub mod ReadParts

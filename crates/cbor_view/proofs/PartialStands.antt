@@ -113,12 +113,13 @@ row-ends inside (p ∷ ps) q mid after file row s = record { mid = row.mid; firs
 cut-unfinished : (d : ℕ) (p : Part) (s : Stop) → AreBytes p.bytes → item_at d p.bytes ≡ Err s → IsUnfinished (partial_item_at d p)
 cut-unfinished d p s are e = sym (view-none d p s are (ap past e))
 
-pub headed : (inside major n : ℕ) (p : Part) (rest head : List ℕ) (parts : List Part) (Next : Part → Type 0) (after : Part) → IsHead major n head → p.bytes ≡ head ++ rest → StandInRow (suc inside) parts after (body_of p rest) → Next after → HeadAndParts inside major n parts Next p
-headed inside major n p rest head parts Next after is w row next = record {
+pub headed : (inside major n : ℕ) (p : Part) (rest head : List ℕ) (parts : List Part) (Next : Part → Type 0) (after : Part) → inside < 32 → IsHead major n head → p.bytes ≡ head ++ rest → StandInRow (suc inside) parts after (body_of p rest) → Next after → HeadAndParts inside major n parts Next p
+headed inside major n p rest head parts Next after less is w row next = record {
   head = head;
   body = body_of p rest;
   after = after;
   spelled = is;
+  nesting = less;
   bytes = w;
   place = omega (arith, ap length w, length-append head rest);
   row = row;
@@ -151,13 +152,13 @@ array-stands : (d : ℕ) → Standing d → (inside n : ℕ) (p : Part) (rest he
 array-stands d standing inside n p rest head s room are w is t e =
     let l : suc inside + d ≡ 32 = omega arith in
     let r = items-row d (suc inside) n (body_of p rest) s l are e in
-    rw t (rw r.run_is (refl, ltb-true n (2 ^ 32) t, r.fewer, cut-unfinished d r.next s r.are r.fault, headed inside 4 n p rest head r.parts (Stands (partial_item_at d r.next) (suc inside)) r.next is w r.row (standing.each (suc inside) r.next l r.are)))
+    rw t (rw r.run_is (refl, ltb-true n (2 ^ 32) t, r.fewer, cut-unfinished d r.next s r.are r.fault, headed inside 4 n p rest head r.parts (Stands (partial_item_at d r.next) (suc inside)) r.next (omega arith) is w r.row (standing.each (suc inside) r.next l r.are)))
 
 entry-stands : (d : ℕ) → Standing d → (inside n : ℕ) (p : Part) (rest head : List ℕ) (s : Stop) (entries : List (Part × Part)) (next : Part) → suc inside + d ≡ 32 → p.bytes ≡ head ++ rest → IsHead 5 n head → n < 2 ^ 32 → length entries < n → StandInRow (suc inside) (keys_and_values entries) next (body_of p rest) → AreBytes next.bytes → (item_at d next.bytes ≡ Err s) ⊎ ValueStops d s next → Stands (unfinished_entry (partial_item_at d) p.at entries next (item_first d next)) inside p
 entry-stands d standing inside n p rest head s entries next room w is short fewer row are (inl k) = rw (first-none d next s k) (
   refl,
   cut-unfinished d next s are k,
-  record { n = n; limit = short; fewer = fewer; stands = headed inside 5 n p rest head (keys_and_values entries) (Stands (partial_item_at d next) (suc inside)) next is w row (standing.each (suc inside) next room are) },
+  record { n = n; limit = short; fewer = fewer; stands = headed inside 5 n p rest head (keys_and_values entries) (Stands (partial_item_at d next) (suc inside)) next (omega arith) is w row (standing.each (suc inside) next room are) },
 )
 entry-stands d standing inside n p rest head s entries next room w is short fewer row are (inr v) =
     let q : Part = body_of next v.key.1 in
@@ -166,7 +167,7 @@ entry-stands d standing inside n p rest head s entries next room w is short fewe
     rw (first-some d next v.key v.read) (
       refl,
       cut-unfinished d q s mid v.fault,
-      record { n = n; limit = short; fewer = fewer; stands = headed inside 5 n p rest head (keys_and_values entries ++ (front next v.key.1 ∷ [])) (Stands (partial_item_at d q) (suc inside)) q is w all (standing.each (suc inside) q room mid) },
+      record { n = n; limit = short; fewer = fewer; stands = headed inside 5 n p rest head (keys_and_values entries ++ (front next v.key.1 ∷ [])) (Stands (partial_item_at d q) (suc inside)) q (omega arith) is w all (standing.each (suc inside) q room mid) },
     )
 
 map-stands : (d : ℕ) → Standing d → (inside n : ℕ) (p : Part) (rest head : List ℕ) (s : Stop) → inside + suc d ≡ 32 → AreBytes rest → p.bytes ≡ head ++ rest → IsHead 5 n head → nat_lt n (2 ^ 32) ≡ true → pairs_at (item_at d) n rest ≡ Err s → Stands (unfinished d (partial_item_at d) p s.kind (Ok (heads.Map n, rest))) inside p
@@ -179,7 +180,7 @@ tag-stands : (d : ℕ) → Standing d → (inside n : ℕ) (p : Part) (rest head
 tag-stands d standing inside n p rest head s room are w is e =
     let l : suc inside + d ≡ 32 = omega arith in
     let q : Part = body_of p rest in
-    (refl, cut-unfinished d q s are e, headed inside 6 n p rest head [] (Stands (partial_item_at d q) (suc inside)) q is w refl (standing.each (suc inside) q l are))
+    (refl, cut-unfinished d q s are e, headed inside 6 n p rest head [] (Stands (partial_item_at d q) (suc inside)) q (omega arith) is w refl (standing.each (suc inside) q l are))
 
 behind-stands : (d : ℕ) → Standing d → (inside : ℕ) (p : Part) (head rest : List ℕ) (h : Head) (s : Stop) → NoneBefore inside p.bytes s → inside + suc d ≡ 32 → AreBytes rest → p.bytes ≡ head ++ rest → HeadOf h head → behind (Some (item_at d)) (length p.bytes) h rest ≡ Err s → Stands (unfinished d (partial_item_at d) p s.kind (Ok (h, rest))) inside p
 behind-stands d standing inside p head rest (heads.Unsigned n) s b room are w is e = absurd (cc)

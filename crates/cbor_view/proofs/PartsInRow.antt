@@ -1,5 +1,5 @@
 -- The parts of a whole item stand in a row behind its head, and nothing else does.
-use Rattle.std.proofs.Common.{◌≡◌, ℕ, zero, suc, ◌+◌, ◌≤◌, List, [], ◌∷◌, ◌++◌, length, Some, None, Ok, refl, sym, ap, ◌∙◌, subst, arith}
+use Rattle.std.proofs.Common.{◌≡◌, ℕ, zero, suc, ◌+◌, ◌<◌, ◌≤◌, List, [], ◌∷◌, ◌++◌, length, Some, None, Ok, refl, sym, ap, ◌∙◌, subst, arith}
 use Rattle.std.proofs.lemmas.List.{length-append, append-nil}
 use Rattle.std.proofs.Math.Nat.{le-max_left, le-max_right}
 use Rattle.cbor_view.specs.declared.heads.Head.{Head}
@@ -115,7 +115,7 @@ items-made (Array ts) p items s l is =
     let some : items_in p ≡ Some (parts_at (count ts) q) = ap (array_behind p) e in
     let same : parts_at (count ts) q ≡ items = cc in
     let n : count ts ≡ length (parts_at (count ts) q) = sym (parts-counted (count ts) q) in
-    let made : IsMadeOf 4 (count ts) (parts_at (count ts) q) p = headed 0 4 (count ts) p s.1.rest s.1.front (parts_at (count ts) q) IsEnd (end_of q.at s.1.rest) s.1.first s.1.whole (parts-row ts 1 q.at s.1.rest s.1.second (omega arith)) refl in
+    let made : IsMadeOf 4 (count ts) (parts_at (count ts) q) p = headed 0 4 (count ts) p s.1.rest s.1.front (parts_at (count ts) q) IsEnd (end_of q.at s.1.rest) (omega arith) s.1.first s.1.whole (parts-row ts 1 q.at s.1.rest s.1.second (omega arith)) refl in
     subst (λ (ps : List Part). IsMadeOf 4 (length ps) ps p) same (subst (λ m. IsMadeOf 4 m (parts_at (count ts) q) p) n made)
 items-made (Unsigned n) p items s l is = no-items p (heads.Unsigned n) [] items (alone p (heads.Unsigned n) s) refl is
 items-made (Negative n) p items s l is = no-items p (heads.Negative n) [] items (alone p (heads.Negative n) s) refl is
@@ -133,7 +133,7 @@ pairs-made (Map ps) p entries s l is =
     let some : pairs_in p ≡ Some (entries_at (pair_count ps) q) = ap (map_behind p) e in
     let same : entries_at (pair_count ps) q ≡ entries = cc in
     let n : pair_count ps ≡ length (entries_at (pair_count ps) q) = sym (entries-counted (pair_count ps) q) in
-    let made : IsMadeOf 5 (pair_count ps) (keys_and_values (entries_at (pair_count ps) q)) p = headed 0 5 (pair_count ps) p s.1.rest s.1.front (keys_and_values (entries_at (pair_count ps) q)) IsEnd (end_of q.at s.1.rest) s.1.first s.1.whole (entries-row ps 1 q.at s.1.rest s.1.second (omega arith)) refl in
+    let made : IsMadeOf 5 (pair_count ps) (keys_and_values (entries_at (pair_count ps) q)) p = headed 0 5 (pair_count ps) p s.1.rest s.1.front (keys_and_values (entries_at (pair_count ps) q)) IsEnd (end_of q.at s.1.rest) (omega arith) s.1.first s.1.whole (entries-row ps 1 q.at s.1.rest s.1.second (omega arith)) refl in
     subst (λ (es : List (Part × Part)). IsMadeOf 5 (length es) (keys_and_values es) p) same (subst (λ m. IsMadeOf 5 m (keys_and_values (entries_at (pair_count ps) q)) p) n made)
 pairs-made (Unsigned n) p entries s l is = no-pairs p (heads.Unsigned n) [] entries (alone p (heads.Unsigned n) s) refl is
 pairs-made (Negative n) p entries s l is = no-pairs p (heads.Negative n) [] entries (alone p (heads.Negative n) s) refl is
@@ -150,11 +150,12 @@ tag-row t inside at body s l = record { mid = end_of at body; first = record { t
 pub tag-made : (t : Tree) (p q : Part) (n : ℕ) → Spelled t p.bytes → levels t ≤ 32 → tag_in p ≡ Some (n, q) → IsMadeOf 6 n (q ∷ []) p
 tag-made (Tag m t) p q n s l is =
     let nesting : 1 + levels t ≤ 32 = omega arith in
+    let outer : 0 < 32 = omega arith in
     let r : Part = body_of p s.rest in
     let e = head-read p s.front s.rest (heads.Tag m) s.whole s.first in
     let some : tag_in p ≡ Some (m, r) = ap (tag_behind p) e in
     let same : (m, r) ≡ (n, q) = cc in
-    let made : IsMadeOf 6 m (r ∷ []) p = headed 0 6 m p s.rest s.front (r ∷ []) IsEnd (end_of r.at s.rest) s.first s.whole (tag-row t 1 r.at s.rest s.second nesting) refl in
+    let made : IsMadeOf 6 m (r ∷ []) p = headed 0 6 m p s.rest s.front (r ∷ []) IsEnd (end_of r.at s.rest) outer s.first s.whole (tag-row t 1 r.at s.rest s.second nesting) refl in
     subst (λ (x : ℕ × Part). IsMadeOf 6 x.0 (x.1 ∷ []) p) same made
 tag-made (Unsigned m) p q n s l is = no-tag p q (heads.Unsigned m) [] n (alone p (heads.Unsigned m) s) refl is
 tag-made (Negative m) p q n s l is = no-tag p q (heads.Negative m) [] n (alone p (heads.Negative m) s) refl is

@@ -31,13 +31,14 @@ abbrev pub StandInRow : ℕ → List Part → Part → Part → Type 0
 StandInRow inside [] after file = after ≡ file
 StandInRow inside (p ∷ ps) after file = FirstAndRow inside p (StandInRow inside ps after) file
 
--- First stands a head of that major type with that argument, behind it the parts one behind the other, and
--- what follows them is as `Next` says.
+-- First stands a head of that major type with that argument, inside fewer than 32 others, behind it the parts
+-- one behind the other, and what follows them is as `Next` says.
 pub record HeadAndParts (inside major n : ℕ) (parts : List Part) (Next : Part → Type 0) (file : Part) : Type 0 where
   pub head : List ℕ
   pub body : Part
   pub after : Part
   pub spelled : IsHead major n head
+  pub nesting : inside < 32
   pub bytes : file.bytes ≡ head ++ body.bytes
   pub place : body.at ≡ file.at + length head
   pub row : StandInRow (suc inside) parts after body

@@ -9,7 +9,7 @@ ghost use Rattle.cbor_view.specs.Shortest.{shortest};
 ghost use Rattle.cbor_view.specs.Reading.{reads};
 ghost use Rattle.cbor_view.specs.FirstFault.{IsFirstFault, IsFaultless, IsItem};
 ghost use Rattle.cbor_view.specs.Parts.{Part, LiesIn, items_in, pairs_in, tag_in};
-ghost use Rattle.cbor_view.specs.PartialItem.{whole, both_whole, tagged_whole, front_item, fault_in, partial_items, partial_pairs, partial_tag};
+ghost use Rattle.cbor_view.specs.PartialItem.{PartialItem, whole, both_whole, tagged_whole, front_item, fault_in, partial_items, partial_pairs, partial_tag};
 ghost use Rattle.cbor_view.specs.PartialSpelling.{Stands, IsMadeOf, keys_and_values};
 
 /// Bytes spell at most one tree.
@@ -70,9 +70,10 @@ pub fn front_item_is_whole()
 {}
 
 /// What a partial item tells of a file stands in it: what is whole is spelled, part after part, each at
-/// its place, and its fault stands at its place.
+/// its place, and its fault stands at its place. No other partial item stands there.
 pub fn partial_item_stands()
-    ensures { (bytes : List ℕ) → AreBytes bytes → Stands (front_item bytes) 0 (record { at = 0; bytes = bytes }) }
+    ensures stands { (bytes : List ℕ) → AreBytes bytes → Stands (front_item bytes) 0 (record { at = 0; bytes = bytes }) }
+    ensures only { (bytes : List ℕ) (item : PartialItem) → Stands item 0 (record { at = 0; bytes = bytes }) → item ≡ front_item bytes }
 {}
 
 /// The parts of a whole item, by `items_in`, `pairs_in` and `tag_in`, of which the contracts of views
