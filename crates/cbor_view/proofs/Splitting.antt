@@ -1,5 +1,5 @@
 -- What follows the head of an item that was read.
-use Rattle.std.proofs.Common.{◌≡◌, ℕ, suc, ◌+◌, ◌-◌, ◌≤◌, List, [], ◌++◌, length, take, drop, true, Result, Ok, Err, refl, sym, ap, ◌∙◌, subst, arith, IsOk, is_ok}
+use Rattle.std.proofs.Common.{◌≡◌, ℕ, zero, suc, ◌+◌, ◌-◌, ◌≤◌, List, [], ◌++◌, length, take, drop, true, Result, Ok, Err, refl, sym, ap, ◌∙◌, subst, arith, IsOk, is_ok}
 use Rattle.std.proofs.lemmas.List.{append-nil, length-append}
 use Rattle.std.proofs.Math.Seq.{take-append_seam, drop-append_seam}
 use Rattle.cbor_view.specs.declared.cbor_kind.CborKind.{CborKind}
@@ -9,7 +9,7 @@ use Rattle.cbor_view.specs.declared.heads.Head.{Head}
 use Rattle.cbor_view.specs.declared.heads.Head.TheVariants as heads
 use Rattle.cbor_view.specs.Tree.{Tree, Unsigned, Negative, Bytes, Text, Array, Map, Tag, Simple, Float, Trees, none, more, Pairs, no_pair, pair, count, pair_count, levels, levels_of_all, levels_of_pairs}
 use Rattle.cbor_view.specs.Spelling.{Spelled, AllSpelled, PairsSpelled}
-use Rattle.cbor_view.specs.Reading.{item_at, head_at, measured, reads, tree_of, tree_or_null, size, past_or_none}
+use Rattle.cbor_view.specs.Reading.{item_at, head_at, left_at, levels_left, past, reads, tree_of, tree_or_null, size, past_or_none}
 use Rattle.cbor_view.specs.Parts.{trees_of, pairs_from, parts_at, entries_at}
 use Rattle.cbor_view.specs.Opening.{are_items, are_pairs, Opens, EndsWith}
 use Rattle.cbor_view.proofs.HeadReading.{AreBytes, HeadOf, typed-again, head-sound}
@@ -131,17 +131,28 @@ pub is-read : (bytes : List ℕ) → IsOk (reads bytes) → reads bytes ≡ Ok (
 unfolding tree_of
 is-read bytes ok = ok-value (reads bytes) ok
 
--- the walk over it gives its depth
-pub depth-read : (item : List ℕ) (n : ℕ) (rest : List ℕ) → IsOk (reads item) → measured levels (item_at 32 item) ≡ Ok (n, rest) → n ≡ levels (tree_of item)
-depth-read item n rest ok e =
-    let r = ap (measured levels) (reads-read item (tree_of item) (is-read item ok)) in
-    let both : ◌≡◌ {A = Result (ℕ × List ℕ) Stop} (Ok (n, rest)) (Ok (levels (tree_of item), [])) = sym e ∙ r in
-    let q : (n, rest) ≡ (levels (tree_of item), []) = cc in
-    let f : ℕ × List ℕ → ℕ = λ x. x.0 in
-    ap f q
+-- the levels that the walk over it leaves give its depth
+left-of : (n : ℕ) → n ≤ 32 → 32 - left_at 32 32 n ≡ n
+left-of zero l = refl
+left-of (suc n) l = omega arith
 
-pub depth-stops : (item : List ℕ) (s : Stop) → IsOk (reads item) → measured levels (item_at 32 item) ≡ Err s → ⊥
-depth-stops item s ok e = let r = ap (measured levels) (reads-read item (tree_of item) (is-read item ok)) in cc
+left-most : (n : ℕ) → left_at 32 32 n ≤ 32
+left-most zero = omega arith
+left-most (suc n) = omega arith
+
+pub record DepthIs (item : List ℕ) (fewest : ℕ) : Type 0 where
+  pub within : fewest ≤ 32
+  pub depth : 32 - fewest ≡ levels (tree_of item)
+
+pub depth-read : (item : List ℕ) (fewest : ℕ) → AreBytes item → IsOk (reads item) → fewest ≡ levels_left levels 32 32 (item_at 32 item) → DepthIs item fewest
+depth-read item fewest are ok e =
+    let is = is-read item ok in
+    let most = (reads-spells item (tree_of item) are is).nesting in
+    let at : fewest ≡ left_at 32 32 (levels (tree_of item)) = e ∙ ap (levels_left levels 32 32) (reads-read item (tree_of item) is) in
+    record { within = subst (λ (m : ℕ). m ≤ 32) (sym at) (left-most (levels (tree_of item))); depth = ap (λ (m : ℕ). 32 - m) at ∙ left-of (levels (tree_of item)) most }
+
+pub depth-stops : (item : List ℕ) (s : Stop) → IsOk (reads item) → past (item_at 32 item) ≡ Err s → ⊥
+depth-stops item s ok e = let r = ap past (reads-read item (tree_of item) (is-read item ok)) in cc
 
 split-item : (bytes : List ℕ) → AreBytes bytes → IsOk (reads bytes) → IsSplit bytes (tree_of bytes)
 split-item bytes are ok = let s = reads-spells bytes (tree_of bytes) are (is-read bytes ok) in split-spelled (tree_of bytes) bytes s.spelled s.nesting

@@ -1,5 +1,5 @@
 -- Reading a tree from the front of bytes (RFC 8949, section 3), with the first fault in byte order.
-use Rattle.std.specs.Prelude.{◌≡◌, ℕ, zero, suc, ◌-◌, ◌/◌, ◌%◌, ◌^◌, ◌||◌, nat_lt, ◌==◌, if◌then◌else◌, List, [], ◌∷◌, length, take, drop, Option, Some, None, Result, Ok, Err}
+use Rattle.std.specs.Prelude.{◌≡◌, ℕ, zero, suc, min, ◌-◌, ◌/◌, ◌%◌, ◌^◌, ◌||◌, nat_lt, ◌==◌, if◌then◌else◌, List, [], ◌∷◌, length, take, drop, Option, Some, None, Result, Ok, Err}
 use Rattle.std.specs.Int.{Width, w8, w16, w32, w64, byte_len, from_be_bytes}
 use Rattle.std.specs.Str.{is_utf8}
 use Rattle.cbor_view.specs.declared.cbor_kind.CborKind.{CborKind}
@@ -121,13 +121,15 @@ abbrev pub past : {A : Type 0} → Result (A × List ℕ) Stop → Result (List 
 past (Ok x) = Ok x.1
 past (Err s) = Err s
 
--- with a number in place of the value, as the depth of what was read
-abbrev pub measured : {A : Type 0} → (A → ℕ) → Result (A × List ℕ) Stop → Result (ℕ × List ℕ) Stop
-measured measure (Ok x) = Ok (measure x.0, x.1)
-measured measure (Err s) = Err s
+-- the fewest levels that were left, of so many, where that many were the fewest before and what is read is so
+-- deep: an item that is none of an array, a map and a tag goes down no level
+abbrev pub left_at : ℕ → ℕ → ℕ → ℕ
+left_at most before zero = before
+left_at most before (suc depth) = min before (most - suc depth)
 
-abbrev pub no_levels : {A : Type 0} → A → ℕ
-no_levels x = 0
+abbrev pub levels_left : {A : Type 0} → (A → ℕ) → ℕ → ℕ → Result (A × List ℕ) Stop → ℕ
+levels_left depth most before (Ok x) = left_at most before (depth x.0)
+levels_left depth most before (Err s) = 0
 
 -- the fault at its offset in that many bytes
 abbrev pub at_offset : {A : Type 0} → ℕ → Result A Stop → Result A CborFault

@@ -36,6 +36,3 @@ pub use partial_pairs::PartialPairs;
 pub use partial_view::PartialView;
 pub use sharing::types_are_send_and_sync;
 pub use view::{ENCODED, View};
-
-#[cfg(test)]
-mod tests;

@@ -154,10 +154,7 @@ impl<'a> View<'a> {
     pub fn depth(&self) -> u32
         ensures { result ≡ levels (tree self.now) }
     {
-        match walk(self.slice, MOST_LEVELS) {
-            Ok((depth, _)) => depth,
-            Err(_) => unreachable!(),
-        }
+        depth_of(self.slice)
     }
 
     /// The items of an array (major type 4).
@@ -256,6 +253,18 @@ fn split_head(item: &[u8]) -> (Head, &[u8])
 {
     match read_head(item) {
         Ok(split) => split,
+        Err(_) => unreachable!(),
+    }
+}
+
+/// How deep an item that was read is nested.
+fn depth_of(item: &[u8]) -> u32
+    requires { IsOk (reads item.now) }
+    ensures { result ≡ levels (tree_of item.now) }
+{
+    let mut fewest = MOST_LEVELS;
+    match walk(item, MOST_LEVELS, &mut fewest) {
+        Ok(_) => MOST_LEVELS - fewest,
         Err(_) => unreachable!(),
     }
 }

@@ -1,8 +1,8 @@
-//! The walk over one item: where it ends and how deep it is nested, or its first fault. It goes down
-//! one level of nesting at a time, and no deeper than it may.
+//! The walk over one item: where it ends, or its first fault. It goes down one level of nesting at a
+//! time, and no deeper than it may.
 
-ghost use Rattle.std.specs.Prelude.{◌≡◌, ◌<◌, ◌≤◌, IfOk};
-ghost use Rattle.cbor_view.specs.Reading.{Gives, string_at, text_at, items_at, pairs_at, item_at, behind, inner, levels_inside, past, measured, no_levels};
+ghost use Rattle.std.specs.Prelude.{◌≡◌, ◌-◌, OnOk, min};
+ghost use Rattle.cbor_view.specs.Reading.{Gives, string_at, text_at, items_at, pairs_at, item_at, behind, inner, levels_inside, levels_left, past};
 ghost use Rattle.cbor_view.specs.Tree.{levels, levels_of_all, levels_of_pairs};
 
 use crate::cbor_kind::CborKind;
@@ -13,24 +13,22 @@ use crate::stop::Stop;
 pub(crate) const LENGTHS_END: u64 = 0x1_0000_0000;
 
 /// What follows the item at the front, which may have so many levels.
-#[tactic(auto, using(crate::proofs::Steps::past_of_measured))]
 pub(crate) fn skip(bytes: &[u8], most: u32) -> Result<&[u8], Stop>
     ensures { Gives (λ x. x.now) result (past (item_at most bytes.now)) }
 {
-    match walk(bytes, most) {
-        Ok((_, rest)) => Ok(rest),
-        Err(stop) => Err(stop),
-    }
+    let mut fewest = most;
+    walk(bytes, most, &mut fewest)
 }
 
-/// How deep the item at the front is nested, which may have so many levels, and what follows it.
+/// What follows the item at the front, which may have so many levels, and the fewest levels that
+/// were left within it.
 #[cycle(walk)]
-pub(crate) fn walk(bytes: &[u8], most: u32) -> Result<(u32, &[u8]), Stop>
-    ensures item { Gives (λ x. (x.0, x.1.now)) result (measured levels (item_at most bytes.now)) }
-    ensures within { IfOk result (λ x. x.0 ≤ most) }
+pub(crate) fn walk<'a>(bytes: &'a [u8], most: u32, fewest: &mut u32) -> Result<&'a [u8], Stop>
+    ensures rest { Gives (λ x. x.now) result (past (item_at most bytes.now)) }
+    ensures left { OnOk result (fewest.new ≡ levels_left levels most fewest.old (item_at most bytes.now)) }
 {
     match read_head(bytes) {
-        Ok((head, rest)) => walk_after(bytes.len(), head, rest, most),
+        Ok((head, rest)) => walk_after(bytes.len(), head, rest, most, fewest),
         Err(kind) => Err(Stop {
             kind,
             left: bytes.len(),
@@ -40,108 +38,111 @@ pub(crate) fn walk(bytes: &[u8], most: u32) -> Result<(u32, &[u8]), Stop>
 
 /// The same of the item whose head was read, `left` bytes from the end.
 #[cycle(walk)]
-fn walk_after(left: usize, head: Head, rest: &[u8], most: u32) -> Result<(u32, &[u8]), Stop>
-    ensures item { Gives (λ x. (x.0, x.1.now)) result (measured levels (behind (inner most) left head rest.entry.now)) }
-    ensures within { IfOk result (λ x. x.0 ≤ most) }
+fn walk_after<'a>(
+    left: usize,
+    head: Head,
+    rest: &'a [u8],
+    most: u32,
+    fewest: &mut u32,
+) -> Result<&'a [u8], Stop>
+    ensures rest { Gives (λ x. x.now) result (past (behind (inner most) left head rest.entry.now)) }
+    ensures left { OnOk result (fewest.new ≡ levels_left levels most fewest.old (behind (inner most) left head rest.entry.now)) }
 {
     match head {
         Head::Bytes(len) => skip_string(left, len, rest),
         Head::Text(len) => skip_text(left, len, rest),
         Head::Array(count) => {
-            let inside = enter(left, count, most)?;
-            let (depth, rest) = walk_items(rest, count, inside)?;
-            Ok((depth + 1, rest))
+            let inside = enter(left, count, most, fewest)?;
+            walk_items(rest, count, inside, fewest)
         }
         Head::Map(count) => {
-            let inside = enter(left, count, most)?;
-            let (depth, rest) = walk_pairs(rest, count, inside)?;
-            Ok((depth + 1, rest))
+            let inside = enter(left, count, most, fewest)?;
+            walk_pairs(rest, count, inside, fewest)
         }
         Head::Tag(_) => {
-            let inside = enter(left, 1, most)?;
-            let (depth, rest) = walk(rest, inside)?;
-            Ok((depth + 1, rest))
+            let inside = enter(left, 1, most, fewest)?;
+            walk(rest, inside, fewest)
         }
-        Head::Unsigned(_) | Head::Negative(_) | Head::Simple(_) | Head::Float { .. } => {
-            Ok((0, rest))
-        }
+        Head::Unsigned(_) | Head::Negative(_) | Head::Simple(_) | Head::Float { .. } => Ok(rest),
     }
 }
 
 /// The levels that the parts of an array, a map or a tag may have.
-fn enter(left: usize, count: u64, most: u32) -> Result<u32, Stop>
+fn enter(left: usize, count: u64, most: u32, fewest: &mut u32) -> Result<u32, Stop>
     ensures inside { result ≡ levels_inside left count most }
-    ensures fewer { IfOk result (λ inside. inside < most) }
+    ensures left { OnOk result (fewest.new ≡ min fewest.old (most - 1)) }
 {
     if count >= LENGTHS_END {
-        Err(Stop {
+        return Err(Stop {
             kind: CborKind::Length,
             left,
-        })
-    } else if most == 0 {
-        Err(Stop {
+        });
+    }
+    if most == 0 {
+        return Err(Stop {
             kind: CborKind::Deep,
             left,
-        })
-    } else {
-        Ok(most - 1)
+        });
     }
+    let inside = most - 1;
+    *fewest = inside.min(*fewest);
+    Ok(inside)
 }
 
-/// How deep the deepest of so many items is nested, and what follows them.
+/// What follows so many items, and the fewest levels that were left within them.
 #[cycle(walk)]
-fn walk_items(bytes: &[u8], count: u64, most: u32) -> Result<(u32, &[u8]), Stop>
-    ensures items { Gives (λ x. (x.0, x.1.now)) result
-        (measured levels_of_all (items_at (item_at most) count bytes.now)) }
-    ensures within { IfOk result (λ x. x.0 ≤ most) }
+fn walk_items<'a>(
+    bytes: &'a [u8],
+    count: u64,
+    most: u32,
+    fewest: &mut u32,
+) -> Result<&'a [u8], Stop>
+    ensures rest { Gives (λ x. x.now) result (past (items_at (item_at most) count bytes.now)) }
+    ensures left { OnOk result (fewest.new ≡ levels_left levels_of_all most fewest.old (items_at (item_at most) count bytes.now)) }
 {
     let mut rest = bytes;
     let mut left = count;
-    let mut deepest = 0;
     while left > 0 {
-        let (depth, others) = walk(rest, most)?;
-        deepest = depth.max(deepest);
-        rest = others;
+        rest = walk(rest, most, fewest)?;
         left -= 1;
     }
-    Ok((deepest, rest))
+    Ok(rest)
 }
 
 /// The same of so many pairs of items.
 #[cycle(walk)]
-fn walk_pairs(bytes: &[u8], count: u64, most: u32) -> Result<(u32, &[u8]), Stop>
-    ensures pairs { Gives (λ x. (x.0, x.1.now)) result
-        (measured levels_of_pairs (pairs_at (item_at most) count bytes.now)) }
-    ensures within { IfOk result (λ x. x.0 ≤ most) }
+fn walk_pairs<'a>(
+    bytes: &'a [u8],
+    count: u64,
+    most: u32,
+    fewest: &mut u32,
+) -> Result<&'a [u8], Stop>
+    ensures rest { Gives (λ x. x.now) result (past (pairs_at (item_at most) count bytes.now)) }
+    ensures left { OnOk result (fewest.new ≡ levels_left levels_of_pairs most fewest.old (pairs_at (item_at most) count bytes.now)) }
 {
     let mut rest = bytes;
     let mut left = count;
-    let mut deepest = 0;
     while left > 0 {
-        let (key_depth, value) = walk(rest, most)?;
-        let (value_depth, others) = walk(value, most)?;
-        deepest = key_depth.max(value_depth).max(deepest);
-        rest = others;
+        let value = walk(rest, most, fewest)?;
+        rest = walk(value, most, fewest)?;
         left -= 1;
     }
-    Ok((deepest, rest))
+    Ok(rest)
 }
 
-fn skip_string(left: usize, len: u64, rest: &[u8]) -> Result<(u32, &[u8]), Stop>
-    ensures string { Gives (λ x. (x.0, x.1.now)) result (measured no_levels (string_at left len rest.now)) }
-    ensures flat { IfOk result (λ x. x.0 ≡ 0) }
+fn skip_string(left: usize, len: u64, rest: &[u8]) -> Result<&[u8], Stop>
+    ensures { Gives (λ x. x.now) result (past (string_at left len rest.now)) }
 {
     let (_, rest) = split_string(left, len, rest)?;
-    Ok((0, rest))
+    Ok(rest)
 }
 
-fn skip_text(left: usize, len: u64, rest: &[u8]) -> Result<(u32, &[u8]), Stop>
-    ensures text { Gives (λ x. (x.0, x.1.now)) result (measured no_levels (text_at left len rest.now)) }
-    ensures flat { IfOk result (λ x. x.0 ≡ 0) }
+fn skip_text(left: usize, len: u64, rest: &[u8]) -> Result<&[u8], Stop>
+    ensures { Gives (λ x. x.now) result (past (text_at left len rest.now)) }
 {
     let (text, rest) = split_string(left, len, rest)?;
     match str::from_utf8(text) {
-        Ok(_) => Ok((0, rest)),
+        Ok(_) => Ok(rest),
         Err(_) => Err(Stop {
             kind: CborKind::BadText,
             left,

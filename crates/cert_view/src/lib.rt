@@ -41,10 +41,3 @@ pub use verify_ask::VerifyAsk;
 pub use write_fault::WriteFault;
 pub use writing::write_cert;
 pub use written_laws::written_is_read;
-
-#[cfg(test)]
-mod certificates;
-#[cfg(test)]
-mod tests;
-#[cfg(test)]
-mod written_tests;

@@ -18,6 +18,3 @@ pub use der_kind::DerKind;
 pub use laws::{element_reads, no_prefix, one_element, one_fault, one_list};
 pub use parts::Parts;
 pub use sharing::types_are_send_and_sync;
-
-#[cfg(test)]
-mod tests;

@@ -51,6 +51,3 @@ pub use store_check::StoreCheck;
 pub use store_fault::StoreFault;
 pub use store_file::StoreFile;
 pub use stored_copy::StoredCopy;
-
-#[cfg(test)]
-mod tests;

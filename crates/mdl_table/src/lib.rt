@@ -25,6 +25,3 @@ pub use row::Row;
 pub use row_fault::RowFault;
 pub use sharing::types_are_send_and_sync;
 pub use table::row_of;
-
-#[cfg(test)]
-mod tests;

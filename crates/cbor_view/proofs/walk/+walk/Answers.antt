@@ -1,66 +1,88 @@
-use Rattle.std.proofs.Common.{sym, ◌∙◌, arith}
+use Rattle.std.proofs.Common.{◌≡◌, ℕ, min, sym, ap, ◌∙◌, subst}
+use Rattle.std.specs.Prelude.{OnOk}
 use Rattle.std.proofs.lemmas.Result.{err_from_is_err_and}
 use Rattle.cbor_view.specs.Tree.{levels, levels_of_all, levels_of_pairs}
-use Rattle.cbor_view.specs.Reading.{item_at, items_at, pairs_at}
-use Rattle.cbor_view.proofs.Steps.{item-measured, item-stopped, array-rest, map-rest, tag-rest, one-more, stopped-too, deepened-stopped, items-ok, items-err, items-none, pairs-ok, pairs-none, pairs-err_key, pairs-err_value}
+use Rattle.cbor_view.specs.Reading.{item_at, items_at, pairs_at, levels_left}
+use Rattle.cbor_view.proofs.Steps.{past-item, past-fault, inside-is, array-rest, map-rest, tag-rest, array-left, map-left, tag-left, items-ok, items-err, items-none, items-left, items-left-none, pairs-ok, pairs-none, pairs-err_key, pairs-err_value, pairs-left, pairs-left-none, levels-item}
 use Rattle.cbor_view.proofs.walk.+walk.Goals as goal
 
-pub walk-returns-in-Ok-clause-item : goal.walk-returns-in-Ok-clause-item
-walk-returns-in-Ok-clause-item t c = rw (item-measured c.args.most c.args.bytes.now c.in-Ok.rest.now c.in-Ok.head c.in-Ok.ensures) c.walk_after.ensures.item
+pub walk-returns-in-Ok-clause-rest : goal.walk-returns-in-Ok-clause-rest
+walk-returns-in-Ok-clause-rest t c = rw (past-item c.args.most c.args.bytes.now c.in-Ok.rest.now c.in-Ok.head c.in-Ok.ensures) c.walk_after.ensures.rest
 
-pub walk-returns-in-Err-clause-item : goal.walk-returns-in-Err-clause-item
-walk-returns-in-Err-clause-item t c = item-stopped c.args.most c.args.bytes.now c.in-Err.kind c.in-Err.ensures
+pub walk-returns-in-Ok-clause-left : goal.walk-returns-in-Ok-clause-left
+walk-returns-in-Ok-clause-left t c = rw (levels-item c.args.most c.args.fewest.now c.args.bytes.now c.in-Ok.rest.now c.in-Ok.head c.in-Ok.ensures) c.walk_after.ensures.left
 
-pub walk_after-returns-in_err-inside-in-Array-clause-item : goal.walk_after-returns-in_err-inside-in-Array-clause-item
-walk_after-returns-in_err-inside-in-Array-clause-item t c = let p = err_from_is_err_and c.from_residual.result c.from_residual.ensures.1 in rw (p.1, p.2) (array-rest c.args.left c.in-Array.count c.args.most c.args.rest.now c.args.head _ c.in-Array.is c.in_err-inside-in-Array.ensures.inside)
+pub walk-returns-in-Err-clause-rest : goal.walk-returns-in-Err-clause-rest
+walk-returns-in-Err-clause-rest t c = past-fault c.args.most c.args.bytes.now c.in-Err.kind c.in-Err.ensures
 
-pub walk_after-returns-in_err-depth-in-Array-clause-item : goal.walk_after-returns-in_err-depth-in-Array-clause-item
-walk_after-returns-in_err-depth-in-Array-clause-item t c = let p = err_from_is_err_and c.from_residual-in_err-depth-in-Array.result c.from_residual-in_err-depth-in-Array.ensures.1 in rw (p.1, p.2) (array-rest c.args.left c.in-Array.count c.args.most c.args.rest.now c.args.head _ c.in-Array.is c.in_ok-inside-in-Array.ensures.inside ∙ stopped-too levels_of_all _ (items_at (item_at c.in_ok-inside-in-Array.inside) c.in-Array.count c.args.rest.now) _ c.in_err-depth-in-Array.ensures.items)
+pub walk_after-returns-in_err-inside-in-Array-clause-rest : goal.walk_after-returns-in_err-inside-in-Array-clause-rest
+walk_after-returns-in_err-inside-in-Array-clause-rest t c = let p = err_from_is_err_and c.from_residual.result c.from_residual.ensures.1 in rw (p.1, p.2) (array-rest c.args.left c.in-Array.count c.args.most c.args.rest.now c.args.head _ c.in-Array.is c.in_err-inside-in-Array.ensures.inside)
 
-pub walk_after-returns-in_ok-depth-in-Array-clause-item : goal.walk_after-returns-in_ok-depth-in-Array-clause-item
-walk_after-returns-in_ok-depth-in-Array-clause-item t c = array-rest c.args.left c.in-Array.count c.args.most c.args.rest.now c.args.head _ c.in-Array.is c.in_ok-inside-in-Array.ensures.inside ∙ one-more levels_of_all (items_at (item_at c.in_ok-inside-in-Array.inside) c.in-Array.count c.args.rest.now) _ _ c.in_ok-depth-in-Array.ensures.items
+pub walk_after-returns-in_ok-inside-in-Array-clause-rest : goal.walk_after-returns-in_ok-inside-in-Array-clause-rest
+walk_after-returns-in_ok-inside-in-Array-clause-rest t c = rw (array-rest c.args.left c.in-Array.count c.args.most c.args.rest.now c.args.head _ c.in-Array.is c.in_ok-inside-in-Array.ensures.inside) c.walk_items.ensures.rest
 
-pub walk_after-returns-in_err-inside-in-Map-clause-item : goal.walk_after-returns-in_err-inside-in-Map-clause-item
-walk_after-returns-in_err-inside-in-Map-clause-item t c = let p = err_from_is_err_and c.from_residual-in_err-inside-in-Map.result c.from_residual-in_err-inside-in-Map.ensures.1 in rw (p.1, p.2) (map-rest c.args.left c.in-Map.count c.args.most c.args.rest.now c.args.head _ c.in-Map.is c.in_err-inside-in-Map.ensures.inside)
+pub walk_after-returns-in_ok-inside-in-Array-clause-left : goal.walk_after-returns-in_ok-inside-in-Array-clause-left
+walk_after-returns-in_ok-inside-in-Array-clause-left t c =
+    let inside = c.in_ok-inside-in-Array.inside in
+    let entered : c.enter.new.fewest ≡ min c.args.fewest.now inside = c.in_ok-inside-in-Array.ensures.left ∙ ap (λ (m : ℕ). min c.args.fewest.now m) (sym (inside-is c.args.left c.in-Array.count c.args.most inside c.in_ok-inside-in-Array.ensures.inside)) in
+    rw (array-left c.args.left c.in-Array.count c.args.most c.args.fewest.now inside c.args.rest.now c.args.head c.in-Array.is c.in_ok-inside-in-Array.ensures.inside)
+    (subst (λ (m : ℕ). OnOk c.walk_items.result (c.walk_items.new.fewest ≡ levels_left levels_of_all inside m (items_at (item_at inside) c.in-Array.count c.args.rest.now))) entered c.walk_items.ensures.left)
 
-pub walk_after-returns-in_err-depth-in-Map-clause-item : goal.walk_after-returns-in_err-depth-in-Map-clause-item
-walk_after-returns-in_err-depth-in-Map-clause-item t c = let p = err_from_is_err_and c.from_residual-in_err-depth-in-Map.result c.from_residual-in_err-depth-in-Map.ensures.1 in rw (p.1, p.2) (map-rest c.args.left c.in-Map.count c.args.most c.args.rest.now c.args.head _ c.in-Map.is c.in_ok-inside-in-Map.ensures.inside ∙ stopped-too levels_of_pairs _ (pairs_at (item_at c.in_ok-inside-in-Map.inside) c.in-Map.count c.args.rest.now) _ c.in_err-depth-in-Map.ensures.pairs)
+pub walk_after-returns-in_err-inside-in-Map-clause-rest : goal.walk_after-returns-in_err-inside-in-Map-clause-rest
+walk_after-returns-in_err-inside-in-Map-clause-rest t c = let p = err_from_is_err_and c.from_residual-in_err-inside-in-Map.result c.from_residual-in_err-inside-in-Map.ensures.1 in rw (p.1, p.2) (map-rest c.args.left c.in-Map.count c.args.most c.args.rest.now c.args.head _ c.in-Map.is c.in_err-inside-in-Map.ensures.inside)
 
-pub walk_after-returns-in_ok-depth-in-Map-clause-item : goal.walk_after-returns-in_ok-depth-in-Map-clause-item
-walk_after-returns-in_ok-depth-in-Map-clause-item t c = map-rest c.args.left c.in-Map.count c.args.most c.args.rest.now c.args.head _ c.in-Map.is c.in_ok-inside-in-Map.ensures.inside ∙ one-more levels_of_pairs (pairs_at (item_at c.in_ok-inside-in-Map.inside) c.in-Map.count c.args.rest.now) _ _ c.in_ok-depth-in-Map.ensures.pairs
+pub walk_after-returns-in_ok-inside-in-Map-clause-rest : goal.walk_after-returns-in_ok-inside-in-Map-clause-rest
+walk_after-returns-in_ok-inside-in-Map-clause-rest t c = rw (map-rest c.args.left c.in-Map.count c.args.most c.args.rest.now c.args.head _ c.in-Map.is c.in_ok-inside-in-Map.ensures.inside) c.walk_pairs.ensures.rest
 
-pub walk_after-returns-in_err-inside-in-Tag-clause-item : goal.walk_after-returns-in_err-inside-in-Tag-clause-item
-walk_after-returns-in_err-inside-in-Tag-clause-item t c = let p = err_from_is_err_and c.from_residual-in_err-inside-in-Tag.result c.from_residual-in_err-inside-in-Tag.ensures.1 in rw (p.1, p.2) (tag-rest c.args.left c.in-Tag.field-0 c.args.most c.args.rest.now c.args.head _ c.in-Tag.is c.in_err-inside-in-Tag.ensures.inside)
+pub walk_after-returns-in_ok-inside-in-Map-clause-left : goal.walk_after-returns-in_ok-inside-in-Map-clause-left
+walk_after-returns-in_ok-inside-in-Map-clause-left t c =
+    let inside = c.in_ok-inside-in-Map.inside in
+    let entered : c.enter-in-Map.new.fewest ≡ min c.args.fewest.now inside = c.in_ok-inside-in-Map.ensures.left ∙ ap (λ (m : ℕ). min c.args.fewest.now m) (sym (inside-is c.args.left c.in-Map.count c.args.most inside c.in_ok-inside-in-Map.ensures.inside)) in
+    rw (map-left c.args.left c.in-Map.count c.args.most c.args.fewest.now inside c.args.rest.now c.args.head c.in-Map.is c.in_ok-inside-in-Map.ensures.inside)
+    (subst (λ (m : ℕ). OnOk c.walk_pairs.result (c.walk_pairs.new.fewest ≡ levels_left levels_of_pairs inside m (pairs_at (item_at inside) c.in-Map.count c.args.rest.now))) entered c.walk_pairs.ensures.left)
 
-pub walk_after-returns-in_err-depth-in-Tag-clause-item : goal.walk_after-returns-in_err-depth-in-Tag-clause-item
-walk_after-returns-in_err-depth-in-Tag-clause-item t c = let p = err_from_is_err_and c.from_residual-in_err-depth-in-Tag.result c.from_residual-in_err-depth-in-Tag.ensures.1 in rw (p.1, p.2) (tag-rest c.args.left c.in-Tag.field-0 c.args.most c.args.rest.now c.args.head _ c.in-Tag.is c.in_ok-inside-in-Tag.ensures.inside ∙ stopped-too levels _ (item_at c.in_ok-inside-in-Tag.inside c.args.rest.now) _ c.in_err-depth-in-Tag.ensures.item)
+pub walk_after-returns-in_err-inside-in-Tag-clause-rest : goal.walk_after-returns-in_err-inside-in-Tag-clause-rest
+walk_after-returns-in_err-inside-in-Tag-clause-rest t c = let p = err_from_is_err_and c.from_residual-in_err-inside-in-Tag.result c.from_residual-in_err-inside-in-Tag.ensures.1 in rw (p.1, p.2) (tag-rest c.args.left c.in-Tag.field-0 c.args.most c.args.rest.now c.args.head _ c.in-Tag.is c.in_err-inside-in-Tag.ensures.inside)
 
-pub walk_after-returns-in_ok-depth-in-Tag-clause-item : goal.walk_after-returns-in_ok-depth-in-Tag-clause-item
-walk_after-returns-in_ok-depth-in-Tag-clause-item t c = tag-rest c.args.left c.in-Tag.field-0 c.args.most c.args.rest.now c.args.head _ c.in-Tag.is c.in_ok-inside-in-Tag.ensures.inside ∙ one-more levels (item_at c.in_ok-inside-in-Tag.inside c.args.rest.now) _ _ c.in_ok-depth-in-Tag.ensures.item
+pub walk_after-returns-in_ok-inside-in-Tag-clause-rest : goal.walk_after-returns-in_ok-inside-in-Tag-clause-rest
+walk_after-returns-in_ok-inside-in-Tag-clause-rest t c = rw (tag-rest c.args.left c.in-Tag.field-0 c.args.most c.args.rest.now c.args.head _ c.in-Tag.is c.in_ok-inside-in-Tag.ensures.inside) c.walk.ensures.rest
 
-pub walk_items-returns-in_err-depth-clause-items : goal.walk_items-returns-in_err-depth-clause-items
-walk_items-returns-in_err-depth-clause-items t c = let p = err_from_is_err_and c.from_residual.result c.from_residual.ensures.1 in rw (p.1, p.2) (sym c.loop-left.invariant.gives ∙ deepened-stopped c.loop-left.deepest _ _ (items-err (item_at c.args.most) c.loop-left.left c.loop-left.rest.now _ c.loop-left-test.true c.in_err-depth.ensures.item))
+pub walk_after-returns-in_ok-inside-in-Tag-clause-left : goal.walk_after-returns-in_ok-inside-in-Tag-clause-left
+walk_after-returns-in_ok-inside-in-Tag-clause-left t c =
+    let inside = c.in_ok-inside-in-Tag.inside in
+    let entered : c.enter-in-Tag.new.fewest ≡ min c.args.fewest.now inside = c.in_ok-inside-in-Tag.ensures.left ∙ ap (λ (m : ℕ). min c.args.fewest.now m) (sym (inside-is c.args.left 1 c.args.most inside c.in_ok-inside-in-Tag.ensures.inside)) in
+    rw (tag-left c.args.left c.in-Tag.field-0 c.args.most c.args.fewest.now inside c.args.rest.now c.args.head c.in-Tag.is c.in_ok-inside-in-Tag.ensures.inside)
+    (subst (λ (m : ℕ). OnOk c.walk.result (c.walk.new.fewest ≡ levels_left levels inside m (item_at inside c.args.rest.now))) entered c.walk.ensures.left)
+
+pub walk_items-returns-in_err-rest-clause-rest : goal.walk_items-returns-in_err-rest-clause-rest
+walk_items-returns-in_err-rest-clause-rest t c = let p = err_from_is_err_and c.from_residual.result c.from_residual.ensures.1 in rw (p.1, p.2) (sym c.loop-left.invariant.gives ∙ items-err (item_at c.args.most) c.loop-left.left c.loop-left.rest.now _ c.loop-left-test.true c.in_err-rest.ensures.rest)
 
 pub walk_items-loop-left-preserved : goal.walk_items-loop-left-preserved
 walk_items-loop-left-preserved t c = record {
-  gives = rw c.max-deepest.ensures (items-ok (item_at c.args.most) c.loop-left.left c.loop-left.deepest c.in_ok-depth.depth c.loop-left.rest.now c.in_ok-depth.others.now c.loop-left-test.true c.in_ok-depth.ensures.item ∙ c.loop-left.invariant.gives);
-  within = omega (arith, c.max-deepest.ensures, c.loop-left.invariant.within, c.in_ok-depth.ensures.within);
+  gives = items-ok (item_at c.args.most) c.loop-left.left c.loop-left.rest.now c.in_ok-rest.rest.now c.loop-left-test.true c.in_ok-rest.ensures.rest ∙ c.loop-left.invariant.gives;
+  levels = items-left (item_at c.args.most) c.loop-left.left c.args.most c.loop-left.fewest c.walk.new.fewest c.loop-left.rest.now c.in_ok-rest.rest.now c.loop-left-test.true c.in_ok-rest.ensures.rest c.in_ok-rest.ensures.left ∙ c.loop-left.invariant.levels;
 }
 
-pub walk_items-returns-clause-items : goal.walk_items-returns-clause-items
-walk_items-returns-clause-items t c = sym c.loop-left.invariant.gives ∙ items-none (item_at c.args.most) c.loop-left.left c.loop-left.deepest c.loop-left.rest.now c.loop-left-test.false
+pub walk_items-returns-clause-rest : goal.walk_items-returns-clause-rest
+walk_items-returns-clause-rest t c = sym c.loop-left.invariant.gives ∙ items-none (item_at c.args.most) c.loop-left.left c.loop-left.rest.now c.loop-left-test.false
 
-pub walk_pairs-returns-in_err-key_depth-clause-pairs : goal.walk_pairs-returns-in_err-key_depth-clause-pairs
-walk_pairs-returns-in_err-key_depth-clause-pairs t c = let p = err_from_is_err_and c.from_residual.result c.from_residual.ensures.1 in rw (p.1, p.2) (sym c.loop-left.invariant.gives ∙ deepened-stopped c.loop-left.deepest _ _ (pairs-err_key (item_at c.args.most) c.loop-left.left c.loop-left.rest.now _ c.loop-left-test.true c.in_err-key_depth.ensures.item))
+pub walk_items-returns-clause-left : goal.walk_items-returns-clause-left
+walk_items-returns-clause-left t c = items-left-none (item_at c.args.most) c.loop-left.left c.args.most c.loop-left.fewest c.loop-left.rest.now c.loop-left-test.false ∙ c.loop-left.invariant.levels
 
-pub walk_pairs-returns-in_err-value_depth-clause-pairs : goal.walk_pairs-returns-in_err-value_depth-clause-pairs
-walk_pairs-returns-in_err-value_depth-clause-pairs t c = let p = err_from_is_err_and c.from_residual-in_err-value_depth.result c.from_residual-in_err-value_depth.ensures.1 in rw (p.1, p.2) (sym c.loop-left.invariant.gives ∙ deepened-stopped c.loop-left.deepest _ _ (pairs-err_value (item_at c.args.most) c.loop-left.left c.in_ok-key_depth.key_depth c.loop-left.rest.now c.in_ok-key_depth.value.now _ c.loop-left-test.true c.in_ok-key_depth.ensures.item c.in_err-value_depth.ensures.item))
+pub walk_pairs-returns-in_err-value-clause-rest : goal.walk_pairs-returns-in_err-value-clause-rest
+walk_pairs-returns-in_err-value-clause-rest t c = let p = err_from_is_err_and c.from_residual.result c.from_residual.ensures.1 in rw (p.1, p.2) (sym c.loop-left.invariant.gives ∙ pairs-err_key (item_at c.args.most) c.loop-left.left c.loop-left.rest.now _ c.loop-left-test.true c.in_err-value.ensures.rest)
+
+pub walk_pairs-returns-in_err-rest-clause-rest : goal.walk_pairs-returns-in_err-rest-clause-rest
+walk_pairs-returns-in_err-rest-clause-rest t c = let p = err_from_is_err_and c.from_residual-in_err-rest.result c.from_residual-in_err-rest.ensures.1 in rw (p.1, p.2) (sym c.loop-left.invariant.gives ∙ pairs-err_value (item_at c.args.most) c.loop-left.left c.loop-left.rest.now c.in_ok-value.value.now _ c.loop-left-test.true c.in_ok-value.ensures.rest c.in_err-rest.ensures.rest)
 
 pub walk_pairs-loop-left-preserved : goal.walk_pairs-loop-left-preserved
 walk_pairs-loop-left-preserved t c = record {
-  gives = rw (c.max-deepest.ensures, c.max.ensures) (pairs-ok (item_at c.args.most) c.loop-left.left c.loop-left.deepest c.in_ok-key_depth.key_depth c.in_ok-value_depth.value_depth c.loop-left.rest.now c.in_ok-key_depth.value.now c.in_ok-value_depth.others.now c.loop-left-test.true c.in_ok-key_depth.ensures.item c.in_ok-value_depth.ensures.item ∙ c.loop-left.invariant.gives);
-  within = omega (arith, c.max-deepest.ensures, c.max.ensures, c.loop-left.invariant.within, c.in_ok-key_depth.ensures.within, c.in_ok-value_depth.ensures.within);
+  gives = pairs-ok (item_at c.args.most) c.loop-left.left c.loop-left.rest.now c.in_ok-value.value.now c.in_ok-rest.rest.now c.loop-left-test.true c.in_ok-value.ensures.rest c.in_ok-rest.ensures.rest ∙ c.loop-left.invariant.gives;
+  levels = pairs-left (item_at c.args.most) c.loop-left.left c.args.most c.loop-left.fewest c.walk.new.fewest c.walk-in-loop-left.new.fewest c.loop-left.rest.now c.in_ok-value.value.now c.in_ok-rest.rest.now c.loop-left-test.true c.in_ok-value.ensures.rest c.in_ok-rest.ensures.rest c.in_ok-value.ensures.left c.in_ok-rest.ensures.left ∙ c.loop-left.invariant.levels;
 }
 
-pub walk_pairs-returns-clause-pairs : goal.walk_pairs-returns-clause-pairs
-walk_pairs-returns-clause-pairs t c = sym c.loop-left.invariant.gives ∙ pairs-none (item_at c.args.most) c.loop-left.left c.loop-left.deepest c.loop-left.rest.now c.loop-left-test.false
+pub walk_pairs-returns-clause-rest : goal.walk_pairs-returns-clause-rest
+walk_pairs-returns-clause-rest t c = sym c.loop-left.invariant.gives ∙ pairs-none (item_at c.args.most) c.loop-left.left c.loop-left.rest.now c.loop-left-test.false
+
+pub walk_pairs-returns-clause-left : goal.walk_pairs-returns-clause-left
+walk_pairs-returns-clause-left t c = pairs-left-none (item_at c.args.most) c.loop-left.left c.args.most c.loop-left.fewest c.loop-left.rest.now c.loop-left-test.false ∙ c.loop-left.invariant.levels

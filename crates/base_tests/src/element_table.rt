@@ -1,8 +1,8 @@
 //! The element table row by row, and dates and moments against values from outside (Python's
 //! `datetime`, and `date -u` for the year 0).
 
-use super::*;
 use cbor_view::View;
+use mdl_table::{Row, RowFault, fits, moment_of, row_of, text_of};
 use std::alloc::Global;
 use std::process::Abort;
 use std::test::*;

@@ -1,7 +1,7 @@
 //! Certificates that are written, against those of another implementation.
 
-use super::*;
-use key_device::{Recorder, ToyDevice};
+use cert_view::{CertDraft, write_cert};
+use key_device::{Point, Recorder, ToyDevice};
 use mdoc_outside::Octets;
 use std::test::*;
 
@@ -85,6 +85,19 @@ c8f7ef951d4bf165e6c6b721efada985fb41661bc6e7fd6c8734640c4998ff7e374b06ce1a64a2ec
     },
 ];
 
+/// The point of a key's digits.
+fn point_of(digits: &[u8]) -> Option<Point> {
+    match digits {
+        [0, 4, rest @ ..] if rest.len() == 64 => {
+            let (x, y) = rest.split_at(32);
+            let x = <[u8; 32]>::try_from(x).ok()?;
+            let y = <[u8; 32]>::try_from(y).ok()?;
+            Some(Point { x, y })
+        }
+        _ => None,
+    }
+}
+
 #[test]
 fn writes_as_another_implementation(rt: HostRuntime) -> Result<(), Fail> {
     let alloc = rt.alloc();
@@ -97,7 +110,7 @@ fn writes_as_another_implementation(rt: HostRuntime) -> Result<(), Fail> {
             subject: Octets::copy_of(alloc, case.subject)?,
             from: case.from,
             until: case.until,
-            key: keys::point_of(&key).ok_or("a point")?,
+            key: point_of(&key).ok_or("a point")?,
             signer: case.signer,
             issuer_key: case.issuer_key,
         };

@@ -1,4 +1,4 @@
-use super::*;
+use cbor_view::{CborFault, CborKind, Doubled, Key, PartialView, View, types_are_send_and_sync};
 use std::test::*;
 
 /// Bytes that are no item, with the first fault and its place.

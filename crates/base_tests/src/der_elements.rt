@@ -1,4 +1,4 @@
-use super::*;
+use der_view::{Der, DerFault, DerKind};
 use std::test::*;
 
 /// Bytes that are no element, with the first fault and its place.

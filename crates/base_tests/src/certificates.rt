@@ -1,7 +1,7 @@
 //! Certificates that another implementation wrote, as `tests/vectors/certificates` prints them, with what it
 //! reads of them.
 
-use crate::*;
+use cert_view::{Cert, CertCheck, CertFault, Roots, RootsFault};
 use std::alloc::Global;
 use std::test::*;
 

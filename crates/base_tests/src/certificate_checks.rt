@@ -1,4 +1,4 @@
-use super::*;
+use cert_view::{Cert, CertCheck, CertFault};
 use std::test::*;
 
 /// A certificate that OpenSSL wrote, in hexadecimal digits: `openssl req -x509 -new -key key.pem
@@ -60,38 +60,4 @@ fn tells_the_first_check(rt: HostRuntime) -> Result<(), Fail> {
         assert_eq!(rt; fault, Some(CertFault { check, at }), "{place}");
     }
     Ok(())
-}
-
-/// The first byte of an INTEGER's body decides its sign.
-#[test]
-fn numbers_have_32_bytes(rt: HostRuntime) {
-    let mut high = [0; 33];
-    high[1] = 0x80;
-    let mut r = [0; 32];
-    r[0] = 0x80;
-    let mut one = [0; 32];
-    one[31] = 1;
-    assert_eq!(rt; integers::number_of(&high), Some(r));
-    assert_eq!(rt; integers::number_of(b"\x01"), Some(one));
-    assert_eq!(rt; integers::number_of(b"\x00"), Some([0; 32]));
-    assert_eq!(rt; integers::number_of(b""), None);
-    assert_eq!(rt; integers::number_of(b"\x00\x01"), None);
-    assert_eq!(rt; integers::number_of(b"\x80"), None);
-    assert_eq!(rt; integers::number_of(&[1; 33]), None);
-}
-
-/// Texts of times and the seconds since 1970, by `date -u +%s -d`.
-#[test]
-fn times_have_their_century(rt: HostRuntime) {
-    assert_eq!(rt; times::utc_time(b"491231235959Z"), Some(2_524_607_999));
-    assert_eq!(rt; times::utc_time(b"500101000000Z"), Some(-631_152_000));
-    assert_eq!(rt; times::utc_time(b"5001010000Z"), None);
-    assert_eq!(rt; times::utc_time(b"500101000000+"), None);
-    assert_eq!(rt;
-        times::generalized_time(b"20500101000000Z"),
-        Some(2_524_608_000)
-    );
-    assert_eq!(rt; times::generalized_time(b"20500101000060Z"), None);
-    assert_eq!(rt; times::generalized_time(b"20500101240000Z"), None);
-    assert_eq!(rt; times::generalized_time(b"20500101000000.0Z"), None);
 }

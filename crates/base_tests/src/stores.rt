@@ -1,8 +1,8 @@
 //! Stores by their bytes.
 
-use crate::StoreCheck::{Cbor, Doubled, Field, Item, Limit, Version};
-use crate::{EMPTY_STORE, Fault, ItemFault, Store, StoreCheck, StoreFault, StoredCopy};
 use cbor_view::{CborFault, CborKind};
+use doc_store::StoreCheck::{Cbor, Doubled, Field, Item, Limit, Version};
+use doc_store::{EMPTY_STORE, Fault, ItemFault, Store, StoreCheck, StoreFault, StoredCopy};
 use mdoc_outside::{KeyName, LimitName};
 use std::alloc::Global;
 use std::process::Abort;
