@@ -1,10 +1,8 @@
 // Issuer-signed items: a worked one and one of the examples, and each fault of the order with those that come
 // later.
-use cbor_view::{CborFault, CborKind, View};
-use cbor_write::Build;
+use cbor_view::{CborKind, View};
 use issuer_items::{Item, ItemFault, write_item};
-use mdoc_outside::{KeyName, Octets};
-use std::alloc::Global;
+use mdoc_outside::KeyName;
 use std::test::Fail;
 
 // {"digestID": 0, "random": h'01', "elementIdentifier": "a", "elementValue": "x"}
@@ -51,124 +49,60 @@ fn item_of_the_examples(rt: HostRuntime) -> Result<(), Fail> {
     Ok(())
 }
 
-// The bytes under tag 24.
-fn tagged(alloc: Global, inside: &[u8]) -> Result<Octets, Fail> {
-    let mut out = Build::new(alloc);
-    out.tag(24)?;
-    out.bytes(inside)?;
-    Ok(out.finish())
-}
+// What is told of an item, and its bytes. Each fault has bytes that show later ones too.
+const ITEMS: &str = "\
+Ok d8185839a46864696765737449441affffffff6672616e646f6d4071656c656d656e744964656e74696669657261616c656c656d656e7456616c756580\n\
+Ok d8185847a6656f74686572006c656c656d656e7456616c75658071656c656d656e744964656e7469666965726161656f74686572006672616e646f6d406864696765737449441affffffff\n\
+Doubled-random d818584fa66864696765737449441affffffff71656c656d656e744964656e74696669657261616672616e646f6d406c656c656d656e7456616c7565806c656c656d656e7456616c7565806672616e646f6d40\n\
+Doubled-elementIdentifier d8185837a371656c656d656e744964656e74696669657261616864696765737449441affffffff71656c656d656e744964656e7469666965726161\n\
+Doubled-elementValue d818581da26c656c656d656e7456616c7565806c656c656d656e7456616c756580\n\
+Doubled-digestID d81855a26864696765737449446068646967657374494460\n\
+Field-digestID d81841a0\n\
+Field-digestID d8185827a3686469676573744944206672616e646f6d6071656c656d656e744964656e7469666965726161\n\
+Field-digestID d8185835a4686469676573744944f56672616e646f6d4071656c656d656e744964656e74696669657261616c656c656d656e7456616c756580\n\
+Field-random d8185831a36864696765737449441affffffff71656c656d656e744964656e74696669657261616c656c656d656e7456616c756580\n\
+Field-random d8185825a36864696765737449441affffffff6672616e646f6d606c656c656d656e7456616c756580\n\
+Field-elementIdentifier d8185825a36864696765737449441affffffff6672616e646f6d406c656c656d656e7456616c756580\n\
+Field-elementIdentifier d818582ba36864696765737449441affffffff6672616e646f6d4071656c656d656e744964656e7469666965724161\n\
+Field-elementValue d818582ba36864696765737449441affffffff6672616e646f6d4071656c656d656e744964656e7469666965726161\n\
+Field-elementValue d8185839a46864696765737449441affffffff6672616e646f6d4071656c656d656e744964656e74696669657261616c656c656d656e7476616c756560\n\
+NotTagged a0\n\
+NotTagged d81940\n\
+NotTagged d81860\n\
+NotTagged d81841\n\
+NotTagged d818410000\n\
+Cbor-0 d81840\n\
+Cbor-3 d81844a161611c\n\
+Field-digestID d8184100\n\
+";
 
-// The map of keys whose values are spelled already.
-fn map_of(alloc: Global, fields: &[(&str, &[u8])]) -> Result<Octets, Fail> {
-    let mut out = Build::new(alloc);
-    out.map(u32::try_from(fields.len()).map_err(|_| "too many fields")?)?;
-    for (key, value) in fields {
-        out.text(key)?;
-        out.append(value)?;
+fn told(bytes: &[u8]) -> &'static str {
+    match Item::read(bytes) {
+        Ok(_) => "Ok",
+        Err(ItemFault::NotTagged) => "NotTagged",
+        Err(ItemFault::Cbor(fault)) => match (fault.kind, fault.at) {
+            (CborKind::Truncated, 0) => "Cbor-0",
+            (CborKind::Reserved, 3) => "Cbor-3",
+            _ => "Cbor",
+        },
+        Err(ItemFault::Doubled(KeyName::DigestId)) => "Doubled-digestID",
+        Err(ItemFault::Doubled(KeyName::Random)) => "Doubled-random",
+        Err(ItemFault::Doubled(KeyName::ElementIdentifier)) => "Doubled-elementIdentifier",
+        Err(ItemFault::Doubled(KeyName::ElementValue)) => "Doubled-elementValue",
+        Err(ItemFault::Field(KeyName::DigestId)) => "Field-digestID",
+        Err(ItemFault::Field(KeyName::Random)) => "Field-random",
+        Err(ItemFault::Field(KeyName::ElementIdentifier)) => "Field-elementIdentifier",
+        Err(ItemFault::Field(KeyName::ElementValue)) => "Field-elementValue",
+        Err(_) => "another key",
     }
-    Ok(out.finish())
 }
 
 #[test]
-fn faults_of_maps(rt: HostRuntime) -> Result<(), Fail> {
-    let alloc = rt.alloc();
-    let (id, salt) = (
-        ("digestID", b"\x1a\xff\xff\xff\xff".as_slice()),
-        ("random", b"\x40".as_slice()),
-    );
-    let (name, value) = (
-        ("elementIdentifier", b"\x61a".as_slice()),
-        ("elementValue", b"\x80".as_slice()),
-    );
-    let other = ("other", b"\x00".as_slice());
-    let text = b"\x60".as_slice();
-    let cases: [(&[(&str, &[u8])], Option<ItemFault>); 15] = [
-        (&[id, salt, name, value], None),
-        (&[other, value, name, other, salt, id], None),
-        (
-            &[id, name, salt, value, value, salt],
-            Some(ItemFault::Doubled(KeyName::Random)),
-        ),
-        (
-            &[name, id, name],
-            Some(ItemFault::Doubled(KeyName::ElementIdentifier)),
-        ),
-        (
-            &[value, value],
-            Some(ItemFault::Doubled(KeyName::ElementValue)),
-        ),
-        (
-            &[("digestID", text), ("digestID", text)],
-            Some(ItemFault::Doubled(KeyName::DigestId)),
-        ),
-        (&[], Some(ItemFault::Field(KeyName::DigestId))),
-        (
-            &[("digestID", b"\x20"), ("random", text), name],
-            Some(ItemFault::Field(KeyName::DigestId)),
-        ),
-        (
-            &[("digestID", b"\xf5"), salt, name, value],
-            Some(ItemFault::Field(KeyName::DigestId)),
-        ),
-        (&[id, name, value], Some(ItemFault::Field(KeyName::Random))),
-        (
-            &[id, ("random", text), value],
-            Some(ItemFault::Field(KeyName::Random)),
-        ),
-        (
-            &[id, salt, value],
-            Some(ItemFault::Field(KeyName::ElementIdentifier)),
-        ),
-        (
-            &[id, salt, ("elementIdentifier", b"\x41a")],
-            Some(ItemFault::Field(KeyName::ElementIdentifier)),
-        ),
-        (
-            &[id, salt, name],
-            Some(ItemFault::Field(KeyName::ElementValue)),
-        ),
-        (
-            &[id, salt, name, ("elementvalue", text)],
-            Some(ItemFault::Field(KeyName::ElementValue)),
-        ),
-    ];
-    for (place, (fields, wanted)) in cases.iter().enumerate() {
-        let map = map_of(alloc, fields)?;
-        let raw = tagged(alloc, map.as_slice())?;
-        assert_eq!(rt; Item::read(raw.as_slice()).err(), *wanted, "case {place}");
-    }
-    Ok(())
-}
-
-#[test]
-fn faults_of_bytes(rt: HostRuntime) -> Result<(), Fail> {
-    let map = WORKED.get(4..).ok_or("the map")?;
-    let cases: [(&[u8], ItemFault); 9] = [
-        (b"", ItemFault::NotTagged),
-        (map, ItemFault::NotTagged),
-        (b"\xd8\x19\x40", ItemFault::NotTagged),
-        (b"\xd8\x18\x60", ItemFault::NotTagged),
-        (b"\xd8\x18\x41", ItemFault::NotTagged),
-        (b"\xd8\x18\x41\x00\x00", ItemFault::NotTagged),
-        (
-            b"\xd8\x18\x40",
-            ItemFault::Cbor(CborFault {
-                kind: CborKind::Truncated,
-                at: 0,
-            }),
-        ),
-        (
-            b"\xd8\x18\x44\xa1\x61a\x1c",
-            ItemFault::Cbor(CborFault {
-                kind: CborKind::Reserved,
-                at: 3,
-            }),
-        ),
-        (b"\xd8\x18\x41\x00", ItemFault::Field(KeyName::DigestId)),
-    ];
-    for (place, (raw, wanted)) in cases.iter().enumerate() {
-        assert_eq!(rt; Item::read(raw).err(), Some(*wanted), "case {place}");
+fn faults_of_items(rt: HostRuntime) -> Result<(), Fail> {
+    for line in ITEMS.lines() {
+        let (wanted, digits) = line.split_once(" ").ok_or("two words")?;
+        let bytes = hex::decode(rt.alloc(), digits.as_bytes()).map_err(|_| "digits")?;
+        assert_eq!(rt; told(&bytes), wanted, "{line}");
     }
     Ok(())
 }

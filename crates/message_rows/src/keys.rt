@@ -1,38 +1,49 @@
 // Keys: the worked one, and each fault of the order with those that come later.
 use cbor_view::View;
-use cbor_write::Build;
 use cose_msgs::{CoseKey, KeyFault, write_key};
 use key_device::Point;
-use mdoc_outside::Octets;
-use std::alloc::Global;
 use std::test::Fail;
 
 const ZEROS: &[u8] = &[0x00; 32];
 
 const ONES: &[u8] = &[0x01; 32];
 
-// What is under a label in a case.
-#[derive(Clone, Copy)]
-enum Value<'a> {
-    Uint(u64),
-    Text(&'a str),
-    Bytes(&'a [u8]),
-    True,
-}
+// What is told of a key, and its bytes. Each fault has bytes that show the later ones too.
+const KEYS: &str = "\
+Ok a40102200121582000000000000000000000000000000000000000000000000000000000000000002258200101010101010101010101010101010101010101010101010101010101010101\n\
+Ok a6225820010101010101010101010101010101010101010101010101010101010101010103012158200000000000000000000000000000000000000000000000000000000000000000030220010102\n\
+Doubled a501012002215820010101010101010101010101010101010101010101010101010101010101010122f50101\n\
+Doubled a501022001200121582000000000000000000000000000000000000000000000000000000000000000002258200101010101010101010101010101010101010101010101010101010101010101\n\
+Doubled a501022001215820000000000000000000000000000000000000000000000000000000000000000022582001010101010101010101010101010101010101010101010101010101010101012258200101010101010101010101010101010101010101010101010101010101010101\n\
+Kind a40101200221f522f5\n\
+Kind a40163454332200121582000000000000000000000000000000000000000000000000000000000000000002258200101010101010101010101010101010101010101010101010101010101010101\n\
+Kind a3200121582000000000000000000000000000000000000000000000000000000000000000002258200101010101010101010101010101010101010101010101010101010101010101\n\
+Curve a401022002215820000000000000000000000000000000000000000000000000000000000000000022f5\n\
+Curve a3010221582000000000000000000000000000000000000000000000000000000000000000002258200101010101010101010101010101010101010101010101010101010101010101\n\
+Compressed a401022001210122f5\n\
+Compressed a401022001215820000000000000000000000000000000000000000000000000000000000000000022f5\n\
+Coordinate a40102200121581f000000000000000000000000000000000000000000000000000000000000002258200101010101010101010101010101010101010101010101010101010101010101\n\
+Coordinate a4010220012158200000000000000000000000000000000000000000000000000000000000000000225821020202020202020202020202020202020202020202020202020202020202020202\n\
+Coordinate a40102200121582000000000000000000000000000000000000000000000000000000000000000002201\n\
+Coordinate a3010220012258200101010101010101010101010101010101010101010101010101010101010101\n\
+Coordinate a40102200121f52258200101010101010101010101010101010101010101010101010101010101010101\n\
+NotMap 80\n\
+NotMap 01\n\
+";
 
-fn map_of(alloc: Global, fields: &[(i64, Value<'_>)]) -> Result<Octets, Fail> {
-    let mut out = Build::new(alloc);
-    out.map(u32::try_from(fields.len()).map_err(|_| "too many fields")?)?;
-    for (label, value) in fields {
-        out.int(*label)?;
-        match *value {
-            Value::Uint(number) => out.uint(number)?,
-            Value::Text(text) => out.text(text)?,
-            Value::Bytes(bytes) => out.bytes(bytes)?,
-            Value::True => out.boolean(true)?,
-        }
+fn told(bytes: &[u8]) -> &'static str {
+    match View::read(bytes) {
+        Ok(view) => match CoseKey::read(view) {
+            Ok(_) => "Ok",
+            Err(KeyFault::NotMap) => "NotMap",
+            Err(KeyFault::Doubled) => "Doubled",
+            Err(KeyFault::Kind) => "Kind",
+            Err(KeyFault::Curve) => "Curve",
+            Err(KeyFault::Compressed) => "Compressed",
+            Err(KeyFault::Coordinate) => "Coordinate",
+        },
+        Err(_) => "no CBOR",
     }
-    Ok(out.finish())
 }
 
 #[test]
@@ -61,82 +72,11 @@ fn worked_key(rt: HostRuntime) -> Result<(), Fail> {
 
 #[test]
 fn faults_of_keys(rt: HostRuntime) -> Result<(), Fail> {
-    let alloc = rt.alloc();
-    let short = ZEROS.get(1..).ok_or("31 bytes")?;
-    let long = &[0x02; 33];
-    let (two, one) = (Value::Uint(2), Value::Uint(1));
-    let (x, y) = (Value::Bytes(ZEROS), Value::Bytes(ONES));
-    let good = Ok(CoseKey {
-        point: Point {
-            x: [0x00; 32],
-            y: [0x01; 32],
-        },
-    });
-    let cases: [(&[(i64, Value<'_>)], Result<CoseKey, KeyFault>); 17] = [
-        (&[(1, two), (-1, one), (-2, x), (-3, y)], good),
-        (
-            &[(-3, y), (3, one), (-2, x), (3, two), (-1, one), (1, two)],
-            good,
-        ),
-        (
-            &[(1, one), (-1, two), (-2, y), (-3, Value::True), (1, one)],
-            Err(KeyFault::Doubled),
-        ),
-        (
-            &[(1, two), (-1, one), (-1, one), (-2, x), (-3, y)],
-            Err(KeyFault::Doubled),
-        ),
-        (
-            &[(1, two), (-1, one), (-2, x), (-3, y), (-3, y)],
-            Err(KeyFault::Doubled),
-        ),
-        (
-            &[(1, one), (-1, two), (-2, Value::True), (-3, Value::True)],
-            Err(KeyFault::Kind),
-        ),
-        (
-            &[(1, Value::Text("EC2")), (-1, one), (-2, x), (-3, y)],
-            Err(KeyFault::Kind),
-        ),
-        (&[(-1, one), (-2, x), (-3, y)], Err(KeyFault::Kind)),
-        (
-            &[(1, two), (-1, two), (-2, x), (-3, Value::True)],
-            Err(KeyFault::Curve),
-        ),
-        (&[(1, two), (-2, x), (-3, y)], Err(KeyFault::Curve)),
-        (
-            &[(1, two), (-1, one), (-2, one), (-3, Value::True)],
-            Err(KeyFault::Compressed),
-        ),
-        (
-            &[(1, two), (-1, one), (-2, x), (-3, Value::True)],
-            Err(KeyFault::Compressed),
-        ),
-        (
-            &[(1, two), (-1, one), (-2, Value::Bytes(short)), (-3, y)],
-            Err(KeyFault::Coordinate),
-        ),
-        (
-            &[(1, two), (-1, one), (-2, x), (-3, Value::Bytes(long))],
-            Err(KeyFault::Coordinate),
-        ),
-        (
-            &[(1, two), (-1, one), (-2, x), (-3, one)],
-            Err(KeyFault::Coordinate),
-        ),
-        (&[(1, two), (-1, one), (-3, y)], Err(KeyFault::Coordinate)),
-        (
-            &[(1, two), (-1, one), (-2, Value::True), (-3, y)],
-            Err(KeyFault::Coordinate),
-        ),
-    ];
-    for (place, (fields, wanted)) in cases.iter().enumerate() {
-        let map = map_of(alloc, fields)?;
-        let view = View::read(map.as_slice()).map_err(|_| "CBOR")?;
-        assert_eq!(rt; CoseKey::read(view), *wanted, "case {place}");
+    for line in KEYS.lines() {
+        let (wanted, digits) = line.split_once(" ").ok_or("two words")?;
+        let bytes = hex::decode(rt.alloc(), digits.as_bytes()).map_err(|_| "digits")?;
+        assert_eq!(rt; told(&bytes), wanted, "{line}");
     }
-    let array = View::read(b"\x80").map_err(|_| "CBOR")?;
-    assert_eq!(rt; CoseKey::read(array), Err(KeyFault::NotMap));
     Ok(())
 }
 

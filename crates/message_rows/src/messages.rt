@@ -1,31 +1,111 @@
 // Signatures and codes: what is signed, and each fault of the order with those that come later.
 use cbor_view::View;
-use cbor_write::Build;
 use cose_msgs::{CoseFault, Mac0, Sign1, mac_bytes, signed_bytes, write_mac0, write_sign1};
-use mdoc_outside::Octets;
-use std::alloc::Global;
 use std::test::Fail;
 
-// A message of the items given: each but the last is spelled already, the last is so many bytes.
-fn message(alloc: Global, items: &[&[u8]], last: usize) -> Result<Octets, Fail> {
-    let mut out = Build::new(alloc);
-    out.array(u32::try_from(items.len() + 1).map_err(|_| "too many items")?)?;
-    for item in items {
-        out.append(item)?;
+// What is told of a signature, of a code and of a chain, and the bytes of the message. Each fault has bytes that
+// show later ones too; the last rows have tags.
+const SIGNATURES: &str = "\
+Ok 8443a10126a0f6584007070707070707070707070707070707070707070707070707070707070707070707070707070707070707070707070707070707070707070707070707070707\n\
+Ok 8443a10126a040584007070707070707070707070707070707070707070707070707070707070707070707070707070707070707070707070707070707070707070707070707070707\n\
+Ok 8446a20126616100a20127616100f6584007070707070707070707070707070707070707070707070707070707070707070707070707070707070707070707070707070707070707070707070707070707\n\
+Shape 8343a10126a0584007070707070707070707070707070707070707070707070707070707070707070707070707070707070707070707070707070707070707070707070707070707\n\
+Shape 8543a10126a0f640584007070707070707070707070707070707070707070707070707070707070707070707070707070707070707070707070707070707070707070707070707070707\n\
+Shape 84a10126a0f6584007070707070707070707070707070707070707070707070707070707070707070707070707070707070707070707070707070707070707070707070707070707\n\
+Shape 844080f6583f070707070707070707070707070707070707070707070707070707070707070707070707070707070707070707070707070707070707070707070707070707\n\
+Shape 8443a10126a06161584007070707070707070707070707070707070707070707070707070707070707070707070707070707070707070707070707070707070707070707070707070707\n\
+Shape 8443a10126a0f4584007070707070707070707070707070707070707070707070707070707070707070707070707070707070707070707070707070707070707070707070707070707\n\
+Header 8440a0f6583f070707070707070707070707070707070707070707070707070707070707070707070707070707070707070707070707070707070707070707070707070707\n\
+Header 844180a0f6584007070707070707070707070707070707070707070707070707070707070707070707070707070707070707070707070707070707070707070707070707070707\n\
+Header 8444a1012600a0f6584007070707070707070707070707070707070707070707070707070707070707070707070707070707070707070707070707070707070707070707070707070707\n\
+Header 8442a101a0f6584007070707070707070707070707070707070707070707070707070707070707070707070707070707070707070707070707070707070707070707070707070707\n\
+Header 8445a201260126a0f6584007070707070707070707070707070707070707070707070707070707070707070707070707070707070707070707070707070707070707070707070707070707\n\
+Header 8446a20127180127a0f6583f070707070707070707070707070707070707070707070707070707070707070707070707070707070707070707070707070707070707070707070707070707\n\
+Header 8449a30126616100616101a0f6584007070707070707070707070707070707070707070707070707070707070707070707070707070707070707070707070707070707070707070707070707070707\n\
+Header 8443a10126a2182140182140f6584007070707070707070707070707070707070707070707070707070707070707070707070707070707070707070707070707070707070707070707070707070707\n\
+Header 8443a10126a2616100616100f6584007070707070707070707070707070707070707070707070707070707070707070707070707070707070707070707070707070707070707070707070707070707\n\
+Header 8443a10126a220002000f6584007070707070707070707070707070707070707070707070707070707070707070707070707070707070707070707070707070707070707070707070707070707\n\
+Algorithm 8441a0a0f6584007070707070707070707070707070707070707070707070707070707070707070707070707070707070707070707070707070707070707070707070707070707\n\
+Algorithm 8443a10127a10126f6583f070707070707070707070707070707070707070707070707070707070707070707070707070707070707070707070707070707070707070707070707070707\n\
+Algorithm 8443a10105a0f6584007070707070707070707070707070707070707070707070707070707070707070707070707070707070707070707070707070707070707070707070707070707\n\
+Algorithm 8448a101654553323536a0f6584007070707070707070707070707070707070707070707070707070707070707070707070707070707070707070707070707070707070707070707070707070707\n\
+SignatureLength 8443a10126a0f640\n\
+SignatureLength 8443a10126a0f658200707070707070707070707070707070707070707070707070707070707070707\n\
+SignatureLength 8443a10126a0f6583f070707070707070707070707070707070707070707070707070707070707070707070707070707070707070707070707070707070707070707070707070707\n\
+SignatureLength 8443a10126a0f658410707070707070707070707070707070707070707070707070707070707070707070707070707070707070707070707070707070707070707070707070707070707\n\
+Shape 01\n\
+Ok d28443a10126a0f6584007070707070707070707070707070707070707070707070707070707070707070707070707070707070707070707070707070707070707070707070707070707\n\
+Shape d18443a10126a0f6584007070707070707070707070707070707070707070707070707070707070707070707070707070707070707070707070707070707070707070707070707070707\n\
+Shape d8628443a10126a0f6584007070707070707070707070707070707070707070707070707070707070707070707070707070707070707070707070707070707070707070707070707070707\n\
+";
+
+const CODES: &str = "\
+Ok 8443a10105a0f658200707070707070707070707070707070707070707070707070707070707070707\n\
+Ok 8443a10105a1182100410058200707070707070707070707070707070707070707070707070707070707070707\n\
+Shape 8343a10105a058200707070707070707070707070707070707070707070707070707070707070707\n\
+Header 8443a10105a201050105f6581f07070707070707070707070707070707070707070707070707070707070707\n\
+Header 8440a0f658200707070707070707070707070707070707070707070707070707070707070707\n\
+Algorithm 8443a10126a0f65821070707070707070707070707070707070707070707070707070707070707070707\n\
+Algorithm 8443a10106a0f658200707070707070707070707070707070707070707070707070707070707070707\n\
+TagLength 8443a10105a0f6581f07070707070707070707070707070707070707070707070707070707070707\n\
+TagLength 8443a10105a0f6584007070707070707070707070707070707070707070707070707070707070707070707070707070707070707070707070707070707070707070707070707070707\n\
+Ok d18443a10105a0f658200707070707070707070707070707070707070707070707070707070707070707\n\
+Shape d28443a10105a0f658200707070707070707070707070707070707070707070707070707070707070707\n\
+";
+
+const CHAINS: &str = "\
+- 8443a10126a0f6584007070707070707070707070707070707070707070707070707070707070707070707070707070707070707070707070707070707070707070707070707070707\n\
+0102 8443a10126a11821420102f6584007070707070707070707070707070707070707070707070707070707070707070707070707070707070707070707070707070707070707070707070707070707\n\
+0102 8443a10126a1182181420102f6584007070707070707070707070707070707070707070707070707070707070707070707070707070707070707070707070707070707070707070707070707070707\n\
+0102 8443a10126a11821824201024103f6584007070707070707070707070707070707070707070707070707070707070707070707070707070707070707070707070707070707070707070707070707070707\n\
+- 8443a10126a1182180f6584007070707070707070707070707070707070707070707070707070707070707070707070707070707070707070707070707070707070707070707070707070707\n\
+- 8443a10126a1182105f6584007070707070707070707070707070707070707070707070707070707070707070707070707070707070707070707070707070707070707070707070707070707\n\
+- 8443a10126a118218242010205f6584007070707070707070707070707070707070707070707070707070707070707070707070707070707070707070707070707070707070707070707070707070707\n\
+- 8443a10126a11822420102f6584007070707070707070707070707070707070707070707070707070707070707070707070707070707070707070707070707070707070707070707070707070707\n\
+";
+
+fn name_of(fault: CoseFault) -> &'static str {
+    match fault {
+        CoseFault::Shape => "Shape",
+        CoseFault::Header => "Header",
+        CoseFault::Algorithm => "Algorithm",
+        CoseFault::TagLength => "TagLength",
+        CoseFault::SignatureLength => "SignatureLength",
     }
-    let bytes = vec![in alloc; 7; last]?;
-    out.bytes(&bytes)?;
-    Ok(out.finish())
 }
 
-fn fault_of_signature(bytes: &[u8]) -> Result<Option<CoseFault>, Fail> {
-    let view = View::read(bytes).map_err(|_| "CBOR")?;
-    Ok(Sign1::read(view).err())
+fn told_of_signature(bytes: &[u8]) -> &'static str {
+    match View::read(bytes) {
+        Ok(view) => match Sign1::read(view) {
+            Ok(_) => "Ok",
+            Err(fault) => name_of(fault),
+        },
+        Err(_) => "no CBOR",
+    }
 }
 
-fn fault_of_code(bytes: &[u8]) -> Result<Option<CoseFault>, Fail> {
-    let view = View::read(bytes).map_err(|_| "CBOR")?;
-    Ok(Mac0::read(view).err())
+fn told_of_code(bytes: &[u8]) -> &'static str {
+    match View::read(bytes) {
+        Ok(view) => match Mac0::read(view) {
+            Ok(_) => "Ok",
+            Err(fault) => name_of(fault),
+        },
+        Err(_) => "no CBOR",
+    }
+}
+
+fn told_of_chain(bytes: &[u8]) -> &'static str {
+    match View::read(bytes) {
+        Ok(view) => match Sign1::read(view) {
+            Ok(read) => match read.chain() {
+                Some(b"\x01\x02") => "0102",
+                Some(_) => "another",
+                None => "-",
+            },
+            Err(fault) => name_of(fault),
+        },
+        Err(_) => "no CBOR",
+    }
 }
 
 #[test]
@@ -46,178 +126,32 @@ fn what_is_signed(rt: HostRuntime) -> Result<(), Fail> {
     Ok(())
 }
 
-// The protected map {1: -7} as bytes, and the empty map.
-const ES256: &[u8] = b"\x43\xa1\x01\x26";
-
-const HMAC256: &[u8] = b"\x43\xa1\x01\x05";
-
-const NONE: &[u8] = b"\xa0";
-
-const NULL: &[u8] = b"\xf6";
-
 #[test]
 fn faults_of_signatures(rt: HostRuntime) -> Result<(), Fail> {
-    let alloc = rt.alloc();
-    let cases: [(&[&[u8]], usize, Option<CoseFault>); 27] = [
-        (&[ES256, NONE, NULL], 64, None),
-        (&[ES256, NONE, b"\x40"], 64, None),
-        // Labels that aren't known, once in each map.
-        (
-            &[b"\x46\xa2\x01\x26\x61a\x00", b"\xa2\x01\x27\x61a\x00", NULL],
-            64,
-            None,
-        ),
-        (&[ES256, NONE], 64, Some(CoseFault::Shape)),
-        (&[ES256, NONE, NULL, b"\x40"], 64, Some(CoseFault::Shape)),
-        (&[b"\xa1\x01\x26", NONE, NULL], 64, Some(CoseFault::Shape)),
-        (&[b"\x40", b"\x80", NULL], 63, Some(CoseFault::Shape)),
-        (&[ES256, NONE, b"\x61a"], 64, Some(CoseFault::Shape)),
-        (&[ES256, NONE, b"\xf4"], 64, Some(CoseFault::Shape)),
-        (&[b"\x40", NONE, NULL], 63, Some(CoseFault::Header)),
-        (&[b"\x41\x80", NONE, NULL], 64, Some(CoseFault::Header)),
-        (
-            &[b"\x44\xa1\x01\x26\x00", NONE, NULL],
-            64,
-            Some(CoseFault::Header),
-        ),
-        (&[b"\x42\xa1\x01", NONE, NULL], 64, Some(CoseFault::Header)),
-        (
-            &[b"\x45\xa2\x01\x26\x01\x26", NONE, NULL],
-            64,
-            Some(CoseFault::Header),
-        ),
-        (
-            &[b"\x46\xa2\x01\x27\x18\x01\x27", NONE, NULL],
-            63,
-            Some(CoseFault::Header),
-        ),
-        (
-            &[b"\x49\xa3\x01\x26\x61a\x00\x61a\x01", NONE, NULL],
-            64,
-            Some(CoseFault::Header),
-        ),
-        (
-            &[ES256, b"\xa2\x18\x21\x40\x18\x21\x40", NULL],
-            64,
-            Some(CoseFault::Header),
-        ),
-        (
-            &[ES256, b"\xa2\x61a\x00\x61a\x00", NULL],
-            64,
-            Some(CoseFault::Header),
-        ),
-        (
-            &[ES256, b"\xa2\x20\x00\x20\x00", NULL],
-            64,
-            Some(CoseFault::Header),
-        ),
-        (&[b"\x41\xa0", NONE, NULL], 64, Some(CoseFault::Algorithm)),
-        (
-            &[b"\x43\xa1\x01\x27", b"\xa1\x01\x26", NULL],
-            63,
-            Some(CoseFault::Algorithm),
-        ),
-        (&[HMAC256, NONE, NULL], 64, Some(CoseFault::Algorithm)),
-        (
-            &[b"\x48\xa1\x01\x65ES256", NONE, NULL],
-            64,
-            Some(CoseFault::Algorithm),
-        ),
-        (&[ES256, NONE, NULL], 0, Some(CoseFault::SignatureLength)),
-        (&[ES256, NONE, NULL], 32, Some(CoseFault::SignatureLength)),
-        (&[ES256, NONE, NULL], 63, Some(CoseFault::SignatureLength)),
-        (&[ES256, NONE, NULL], 65, Some(CoseFault::SignatureLength)),
-    ];
-    for (place, (items, last, wanted)) in cases.iter().enumerate() {
-        let bytes = message(alloc, items, *last)?;
-        assert_eq!(rt;
-            fault_of_signature(bytes.as_slice())?,
-            *wanted,
-            "case {place}"
-        );
+    for line in SIGNATURES.lines() {
+        let (wanted, digits) = line.split_once(" ").ok_or("two words")?;
+        let bytes = hex::decode(rt.alloc(), digits.as_bytes()).map_err(|_| "digits")?;
+        assert_eq!(rt; told_of_signature(&bytes), wanted, "{line}");
     }
-    assert_eq!(rt; fault_of_signature(b"\x01")?, Some(CoseFault::Shape));
     Ok(())
 }
 
 #[test]
 fn faults_of_codes(rt: HostRuntime) -> Result<(), Fail> {
-    let alloc = rt.alloc();
-    let cases: [(&[&[u8]], usize, Option<CoseFault>); 9] = [
-        (&[HMAC256, NONE, NULL], 32, None),
-        (&[HMAC256, b"\xa1\x18\x21\x00", b"\x41\x00"], 32, None),
-        (&[HMAC256, NONE], 32, Some(CoseFault::Shape)),
-        (
-            &[HMAC256, b"\xa2\x01\x05\x01\x05", NULL],
-            31,
-            Some(CoseFault::Header),
-        ),
-        (&[b"\x40", NONE, NULL], 32, Some(CoseFault::Header)),
-        (&[ES256, NONE, NULL], 33, Some(CoseFault::Algorithm)),
-        (
-            &[b"\x43\xa1\x01\x06", NONE, NULL],
-            32,
-            Some(CoseFault::Algorithm),
-        ),
-        (&[HMAC256, NONE, NULL], 31, Some(CoseFault::TagLength)),
-        (&[HMAC256, NONE, NULL], 64, Some(CoseFault::TagLength)),
-    ];
-    for (place, (items, last, wanted)) in cases.iter().enumerate() {
-        let bytes = message(alloc, items, *last)?;
-        assert_eq!(rt; fault_of_code(bytes.as_slice())?, *wanted, "case {place}");
-    }
-    Ok(())
-}
-
-// The tag of the message's kind is ignored, and another one isn't.
-#[test]
-fn tags_of_messages(rt: HostRuntime) -> Result<(), Fail> {
-    let alloc = rt.alloc();
-    let signature = message(alloc, &[ES256, NONE, NULL], 64)?;
-    let code = message(alloc, &[HMAC256, NONE, NULL], 32)?;
-    for (tag, of_signature, of_code) in [
-        (18, None, Some(CoseFault::Shape)),
-        (17, Some(CoseFault::Shape), None),
-        (98, Some(CoseFault::Shape), Some(CoseFault::Shape)),
-    ] {
-        let mut out = Build::new(alloc);
-        out.tag(tag)?;
-        out.append(signature.as_slice())?;
-        assert_eq!(rt;
-            fault_of_signature(out.finish().as_slice())?,
-            of_signature,
-            "tag {tag}"
-        );
-        let mut out = Build::new(alloc);
-        out.tag(tag)?;
-        out.append(code.as_slice())?;
-        assert_eq!(rt;
-            fault_of_code(out.finish().as_slice())?,
-            of_code,
-            "tag {tag}"
-        );
+    for line in CODES.lines() {
+        let (wanted, digits) = line.split_once(" ").ok_or("two words")?;
+        let bytes = hex::decode(rt.alloc(), digits.as_bytes()).map_err(|_| "digits")?;
+        assert_eq!(rt; told_of_code(&bytes), wanted, "{line}");
     }
     Ok(())
 }
 
 #[test]
 fn chains(rt: HostRuntime) -> Result<(), Fail> {
-    let alloc = rt.alloc();
-    let cases: [(&[u8], Option<&[u8]>); 8] = [
-        (NONE, None),
-        (b"\xa1\x18\x21\x42\x01\x02", Some(b"\x01\x02")),
-        (b"\xa1\x18\x21\x81\x42\x01\x02", Some(b"\x01\x02")),
-        (b"\xa1\x18\x21\x82\x42\x01\x02\x41\x03", Some(b"\x01\x02")),
-        (b"\xa1\x18\x21\x80", None),
-        (b"\xa1\x18\x21\x05", None),
-        (b"\xa1\x18\x21\x82\x42\x01\x02\x05", None),
-        (b"\xa1\x18\x22\x42\x01\x02", None),
-    ];
-    for (place, (unprotected, wanted)) in cases.iter().enumerate() {
-        let bytes = message(alloc, &[ES256, unprotected, NULL], 64)?;
-        let view = View::read(bytes.as_slice()).map_err(|_| "CBOR")?;
-        let read = Sign1::read(view).map_err(|_| "a signature")?;
-        assert!(rt; read.chain() == *wanted, "case {place}");
+    for line in CHAINS.lines() {
+        let (wanted, digits) = line.split_once(" ").ok_or("two words")?;
+        let bytes = hex::decode(rt.alloc(), digits.as_bytes()).map_err(|_| "digits")?;
+        assert_eq!(rt; told_of_chain(&bytes), wanted, "{line}");
     }
     Ok(())
 }
