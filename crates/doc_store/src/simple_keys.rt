@@ -1,8 +1,6 @@
 //! The keys of a store file whose values are numbers, texts and truth values, and the one of an array of four.
 
-ghost use Rattle.std.specs.Prelude.{◌≡◌};
-ghost use Rattle.cbor_view.specs.PartialView.{partial_item};
-ghost use Rattle.doc_store.specs.Faults.{auth_faults, auth_of_issuer, doc_type_faults, first_fault, key_number, used_faults, version_faults};
+ghost use Rattle.doc_store.specs.Faults.{auth_faults, auth_of_issuer, doc_type_faults, key_number, used_faults, version_faults};
 ghost use Rattle.mdoc_outside.specs.declared.key_name.KeyName.TheVariants as keys;
 
 use crate::StoreCheck;
@@ -25,17 +23,11 @@ impl FormKey for Version {
     }
 
     fn fault_of(&self, _alloc: Global, value: &PartialView<'_>) -> Result<Option<Fault>, Memory> {
-        Ok(version_fault(value))
-    }
-}
-
-fn version_fault(value: &PartialView<'_>) -> Option<Fault>
-    ensures { result ≡ first_fault (version_faults (partial_item value.now)) }
-{
-    match uint(value) {
-        Some(VERSION) => None,
-        Some(_) => Some(fault(StoreCheck::Version, value)),
-        None => other_kind(StoreCheck::Field(KeyName::Version), value),
+        Ok(match uint(value) {
+            Some(VERSION) => None,
+            Some(_) => Some(fault(StoreCheck::Version, value)),
+            None => other_kind(StoreCheck::Field(KeyName::Version), value),
+        })
     }
 }
 
@@ -50,16 +42,10 @@ impl FormKey for DocType {
     }
 
     fn fault_of(&self, _alloc: Global, value: &PartialView<'_>) -> Result<Option<Fault>, Memory> {
-        Ok(doc_type_fault(value))
-    }
-}
-
-fn doc_type_fault(value: &PartialView<'_>) -> Option<Fault>
-    ensures { result ≡ first_fault (doc_type_faults (partial_item value.now)) }
-{
-    match text(value) {
-        Some(name) => name_limit(value, name),
-        None => other_kind(StoreCheck::Field(KeyName::DocType), value),
+        Ok(match text(value) {
+            Some(name) => name_limit(value, name),
+            None => other_kind(StoreCheck::Field(KeyName::DocType), value),
+        })
     }
 }
 
@@ -74,18 +60,12 @@ impl FormKey for Auth {
     }
 
     fn fault_of(&self, _alloc: Global, value: &PartialView<'_>) -> Result<Option<Fault>, Memory> {
-        Ok(auth_fault(value))
-    }
-}
-
-fn auth_fault(value: &PartialView<'_>) -> Option<Fault>
-    ensures { result ≡ first_fault (auth_faults (partial_item value.now)) }
-{
-    let check = StoreCheck::Field(KeyName::Auth);
-    match uint(value) {
-        Some(number) if number <= MOST_AUTH => None,
-        Some(_) => Some(fault(check, value)),
-        None => other_kind(check, value),
+        let check = StoreCheck::Field(KeyName::Auth);
+        Ok(match uint(value) {
+            Some(number) if number <= MOST_AUTH => None,
+            Some(_) => Some(fault(check, value)),
+            None => other_kind(check, value),
+        })
     }
 }
 
@@ -100,18 +80,12 @@ impl FormKey for DeviceKeyNumber {
     }
 
     fn fault_of(&self, _alloc: Global, value: &PartialView<'_>) -> Result<Option<Fault>, Memory> {
-        Ok(device_key_fault(value))
-    }
-}
-
-fn device_key_fault(value: &PartialView<'_>) -> Option<Fault>
-    ensures { result ≡ first_fault (key_number (partial_item value.now)) }
-{
-    let check = StoreCheck::Field(KeyName::Key);
-    match uint(value) {
-        Some(number) if number < KEY_NUMBERS_END => None,
-        Some(_) => Some(fault(check, value)),
-        None => other_kind(check, value),
+        let check = StoreCheck::Field(KeyName::Key);
+        Ok(match uint(value) {
+            Some(number) if number < KEY_NUMBERS_END => None,
+            Some(_) => Some(fault(check, value)),
+            None => other_kind(check, value),
+        })
     }
 }
 
@@ -126,16 +100,10 @@ impl FormKey for Used {
     }
 
     fn fault_of(&self, _alloc: Global, value: &PartialView<'_>) -> Result<Option<Fault>, Memory> {
-        Ok(used_fault(value))
-    }
-}
-
-fn used_fault(value: &PartialView<'_>) -> Option<Fault>
-    ensures { result ≡ first_fault (used_faults (partial_item value.now)) }
-{
-    match boolean(value) {
-        Some(_) => None,
-        None => other_kind(StoreCheck::Field(KeyName::Used), value),
+        Ok(match boolean(value) {
+            Some(_) => None,
+            None => other_kind(StoreCheck::Field(KeyName::Used), value),
+        })
     }
 }
 
@@ -150,17 +118,11 @@ impl FormKey for IssuerAuth {
     }
 
     fn fault_of(&self, _alloc: Global, value: &PartialView<'_>) -> Result<Option<Fault>, Memory> {
-        Ok(issuer_auth_fault(value))
-    }
-}
-
-fn issuer_auth_fault(value: &PartialView<'_>) -> Option<Fault>
-    ensures { result ≡ first_fault (auth_of_issuer (partial_item value.now)) }
-{
-    let check = StoreCheck::Field(KeyName::IssuerAuth);
-    match value.count() {
-        Some(parts) if parts == SIGNATURE_PARTS as u64 => None,
-        Some(_) => Some(fault(check, value)),
-        None => other_kind(check, value),
+        let check = StoreCheck::Field(KeyName::IssuerAuth);
+        Ok(match value.count() {
+            Some(parts) if parts == SIGNATURE_PARTS as u64 => None,
+            Some(_) => Some(fault(check, value)),
+            None => other_kind(check, value),
+        })
     }
 }
