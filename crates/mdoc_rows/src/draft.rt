@@ -76,7 +76,11 @@ fn words(rt: HostRuntime) -> Result<(), Fail> {
     ] {
         let outcome = outcome_of(alloc, words, FILES, &[], &[])?;
         assert_eq!(rt; outcome.status.as_str(), status, "{words}");
-        assert_eq!(rt; outcome.printed.as_slice().is_empty(), status != "Done", "{words}");
+        assert_eq!(rt;
+            outcome.printed.as_slice().is_empty(),
+            status != "Done",
+            "{words}"
+        );
     }
     Ok(())
 }
@@ -175,17 +179,66 @@ fn calls_of_a_run(rt: HostRuntime) -> Result<(), Fail> {
     let whole = format!(in alloc; "{PRINTED}|")?;
     for (words, cabinet_fails, sink_fails, status, calls, puts) in [
         (WORDS, None, None, "Done", "rs rw rr", whole.as_str()),
-        ("draft --rules r --wishes w --store s", None, None, "Done", "rs rw rr", whole.as_str()),
+        (
+            "draft --rules r --wishes w --store s",
+            None,
+            None,
+            "Done",
+            "rs rw rr",
+            whole.as_str(),
+        ),
         // an earlier file is missing, before the cabinet would fail at a later one
-        ("draft --store s --wishes x --rules r", Some(2u64), None, "Missing Wishes", "rs rx", ""),
-        ("draft --store x --wishes w --rules r", Some(1), None, "Missing Store", "rx", ""),
+        (
+            "draft --store s --wishes x --rules r",
+            Some(2u64),
+            None,
+            "Missing Wishes",
+            "rs rx",
+            "",
+        ),
+        (
+            "draft --store x --wishes w --rules r",
+            Some(1),
+            None,
+            "Missing Store",
+            "rx",
+            "",
+        ),
         // and the cabinet fails at an earlier one, before a later one is missing
-        ("draft --store s --wishes w --rules x", Some(1), None, "Cabinet", "rs Rw", ""),
-        ("draft --store s --wishes x --rules r", Some(1), None, "Cabinet", "rs Rx", ""),
+        (
+            "draft --store s --wishes w --rules x",
+            Some(1),
+            None,
+            "Cabinet",
+            "rs Rw",
+            "",
+        ),
+        (
+            "draft --store s --wishes x --rules r",
+            Some(1),
+            None,
+            "Cabinet",
+            "rs Rx",
+            "",
+        ),
         // an earlier file is outside its form
-        ("draft --store s --wishes r --rules r", Some(2), None, "Form Wishes Line 1", "rs rr", ""),
+        (
+            "draft --store s --wishes r --rules r",
+            Some(2),
+            None,
+            "Form Wishes Line 1",
+            "rs rr",
+            "",
+        ),
         // one file in two roles is read twice, once for each
-        ("draft --store s --wishes w --rules w", None, None, "Form Rules Line 1", "rs rw rw", ""),
+        (
+            "draft --store s --wishes w --rules w",
+            None,
+            None,
+            "Form Rules Line 1",
+            "rs rw rw",
+            "",
+        ),
         (WORDS, None, Some(0u64), "Sink", "rs rw rr", "!"),
         ("draft --store s --wishes w", None, None, "Usage", "", ""),
     ] {
