@@ -8,7 +8,7 @@ pub returns-clause-read : goal.returns-clause-read
 unfolding written
 returns-clause-read g c =
     let whole : c.in_ok-certificate_of.field-0 ≡ written c.args.draft.now c.in-Ok.pair =
-        c.in_ok-certificate_of.ensures ∙ ap (λ message. certificate_of message c.in-Ok.pair) (c.deref-2.ensures.value ∙ c.in_ok-message.ensures) in
+    c.in_ok-certificate_of.ensures ∙ ap (λ message. certificate_of message c.in-Ok.pair) (c.deref-2.ensures.value ∙ c.in_ok-message.ensures) in
     record {
       pair = c.in-Ok.pair;
       size = c.has_length.ensures;
