@@ -1,4 +1,4 @@
-// Messages that were made outside: that of RFC 9052, appendix C.2.1, and those that tests/cose_messages writes.
+// Messages that were made outside: that of RFC 9052, appendix C.2.1, and those that `tests/vectors/cose_messages` writes.
 use cbor_view::View;
 use cose_msgs::{Mac0, Sign1, mac_bytes, signed_bytes, write_mac0, write_sign1};
 use std::test::Fail;
