@@ -4,4 +4,5 @@ pub mod Headers
 pub mod Message
 pub mod MessageView
 pub mod Structures
+pub mod Transcript
 pub mod Written
