@@ -1,0 +1,2 @@
+pub mod MessageBytes
+pub mod OpeningLemmas
