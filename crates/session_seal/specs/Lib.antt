@@ -7,3 +7,4 @@ pub mod Ending
 pub mod Stopping
 pub mod Wallet
 pub mod Reader
+pub mod Laws
