@@ -24,7 +24,6 @@ mod session_keys;
 mod session_status;
 mod sharing;
 mod stop;
-mod transcript;
 mod wallet_asked;
 mod wallet_end;
 mod wallet_ended;

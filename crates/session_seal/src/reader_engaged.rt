@@ -12,9 +12,8 @@ ghost use Rattle.session_seal.specs.Stopping.{Keeps, came_to};
 
 use crate::reader_session::ReaderSession;
 use crate::session_keys::{SessionKeys, salt};
-use crate::transcript::write_transcript;
 use crate::{ReaderEnd, ReaderEnded, ReaderReady, Stop};
-use cose_msgs::write_key;
+use cose_msgs::{write_key, write_transcript};
 use key_device::{DeviceFault, KeyDevice, Made, Point, Recorder};
 use mdoc_outside::{Memory, Octets};
 use std::alloc::Global;

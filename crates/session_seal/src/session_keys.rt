@@ -3,8 +3,8 @@
 ghost use Rattle.std.specs.Prelude.{◌≡◌, IfOk};
 ghost use Rattle.session_seal.specs.Keys.{derived, keys_by_salt, mac_key, salt};
 
-use crate::transcript::write_transcript_bytes;
 use aes_gcm::Key256;
+use cose_msgs::write_transcript_bytes;
 use hmac_hkdf::hkdf32;
 use mdoc_outside::Memory;
 use sha2::{Digest, Sha256};
