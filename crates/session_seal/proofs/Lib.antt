@@ -1,0 +1,5 @@
+pub mod MessageBytes
+pub mod OpeningLemmas
+pub mod DataWritten
+pub mod EstablishmentWritten
+pub mod BothEnds

@@ -1,0 +1,10 @@
+pub mod Keys
+pub mod Places
+pub mod Messages
+pub mod MessageView
+pub mod WrittenMessages
+pub mod Ending
+pub mod Stopping
+pub mod Wallet
+pub mod Reader
+pub mod Laws
