@@ -1,0 +1,8 @@
+pub mod AscendingNumbers
+pub mod DigestLists
+pub mod GroupedBytes
+pub mod MadeFromItems
+pub mod ValidityBytes
+pub mod WrittenDates
+pub mod WrittenDigests
+pub mod WrittenObject

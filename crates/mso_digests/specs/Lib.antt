@@ -1,0 +1,9 @@
+pub mod Digests
+pub mod Nested
+pub mod Object
+pub mod MsoView
+pub mod Written
+pub mod WrittenSteps
+pub mod WrittenFacts
+pub mod DraftView
+pub mod MadeFrom

@@ -1,0 +1,15 @@
+//! What may be handed to another thread and shared with it.
+
+use crate::{Mso, MsoFault};
+
+fn is_send<T: Send>() {}
+
+fn is_sync<T: Sync>() {}
+
+/// Security objects may be handed to another thread, and shared with it.
+pub fn types_are_send_and_sync() {
+    is_send::<Mso<'static>>();
+    is_sync::<Mso<'static>>();
+    is_send::<MsoFault>();
+    is_sync::<MsoFault>();
+}
