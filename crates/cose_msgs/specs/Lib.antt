@@ -5,4 +5,5 @@ pub mod Message
 pub mod MessageView
 pub mod Structures
 pub mod Transcript
+pub mod TranscriptLaws
 pub mod Written
