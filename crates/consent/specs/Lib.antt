@@ -1,0 +1,4 @@
+pub mod Grammar
+pub mod Rule
+pub mod Rules
+pub mod Wish

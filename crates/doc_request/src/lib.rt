@@ -1,0 +1,28 @@
+//! What a reader asks for and who it is (ISO/IEC 18013-5, 8.3.2.1.2.1 and 9.1.4).
+//!
+//! The one contract: a request is read exactly where an item is one, as the documents and wishes in the order of its
+//! bytes, else with the first check that fails.
+#![tactic(auto)]
+
+mod checks;
+mod doc_ask;
+mod doc_draft;
+mod documents;
+mod element;
+mod elements;
+mod faults;
+mod request;
+mod request_draft;
+mod request_fault;
+mod spaces;
+mod wish_draft;
+mod wishes;
+
+pub use doc_ask::DocAsk;
+pub use doc_draft::DocDraft;
+pub use documents::Documents;
+pub use request::Request;
+pub use request_draft::RequestDraft;
+pub use request_fault::RequestFault;
+pub use wish_draft::WishDraft;
+pub use wishes::Wishes;
