@@ -1,0 +1,4 @@
+pub mod FirstsLemmas
+pub mod LastDocument
+pub mod PutFields
+pub mod WriterLemmas

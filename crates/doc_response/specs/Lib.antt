@@ -1,0 +1,6 @@
+pub mod Answered
+pub mod AnsweredView
+pub mod Draft
+pub mod DraftView
+pub mod Written
+pub mod Namespaces
