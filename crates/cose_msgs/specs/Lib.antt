@@ -4,4 +4,6 @@ pub mod Headers
 pub mod Message
 pub mod MessageView
 pub mod Structures
+pub mod Transcript
+pub mod TranscriptLaws
 pub mod Written

@@ -1,0 +1,4 @@
+pub mod Engagement
+pub mod EngagementView
+pub mod Uri
+pub mod WrittenEngagement
