@@ -4,3 +4,11 @@ pub mod Draft
 pub mod DraftView
 pub mod Written
 pub mod Namespaces
+pub mod Faults
+pub mod ResponseParts
+pub mod Response
+pub mod ResponseView
+pub mod ResponseItems
+pub mod ResponseErrors
+pub mod ResponseDocs
+pub mod ResponseRead

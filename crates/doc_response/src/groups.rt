@@ -76,11 +76,7 @@ fn put_namespace_errors(
 /// Appends the map of namespaces to their items (ISO/IEC 18013-5, 8.3.2.1.2.2), in the order in which they
 /// appear first.
 #[tactic(auto, unfolding(crate::specs::Answered::items_map))]
-pub fn put_items(
-    alloc: Global,
-    build: &mut Build,
-    items: &[ReleasedItem<'_>],
-) -> Result<(), Memory>
+pub fn put_items(alloc: Global, build: &mut Build, items: &[ReleasedItem<'_>]) -> Result<(), Memory>
     ensures { OnOk result (build.new ≡ build.old ++ items_map (map item_seen items.now)) }
 {
     let mut all = Vec::new(alloc);

@@ -59,14 +59,15 @@ fn write_auth(alloc: Global, auth: DeviceAuth) -> Result<Octets, Memory>
     match auth {
         DeviceAuth::Signature(signature) => {
             let message = write_sign1(alloc, None, None, &signature)?;
-            let map = MapBuild::new(alloc, 1)?
-                .spelled(KeyName::DeviceSignature, message.as_slice())?;
+            let map = MapBuild::new(alloc, 1)?.spelled(
+                KeyName::DeviceSignature,
+                message.as_slice(),
+            )?;
             Ok(map.finish())
         }
         DeviceAuth::Mac(tag) => {
             let message = write_mac0(alloc, &tag)?;
-            let map =
-                MapBuild::new(alloc, 1)?.spelled(KeyName::DeviceMac, message.as_slice())?;
+            let map = MapBuild::new(alloc, 1)?.spelled(KeyName::DeviceMac, message.as_slice())?;
             Ok(map.finish())
         }
     }
@@ -193,10 +194,7 @@ fn put_document_errors(build: &mut Build, types: &[&str]) -> Result<(), Memory>
 }
 
 /// The types of the documents of which nothing is released.
-fn empty_types<'a>(
-    alloc: Global,
-    documents: &[DraftDocument<'a>],
-) -> Result<Vec<&'a str>, Memory>
+fn empty_types<'a>(alloc: Global, documents: &[DraftDocument<'a>]) -> Result<Vec<&'a str>, Memory>
     ensures { IfOk result (λ types. map text_seen types.items ≡ types_of (empty (map document_seen documents.now))) }
 {
     let mut types = Vec::new(alloc);
