@@ -1,0 +1,14 @@
+pub mod Answered
+pub mod AnsweredView
+pub mod Draft
+pub mod DraftView
+pub mod Written
+pub mod Namespaces
+pub mod Faults
+pub mod ResponseParts
+pub mod Response
+pub mod ResponseView
+pub mod ResponseItems
+pub mod ResponseErrors
+pub mod ResponseDocs
+pub mod ResponseRead
