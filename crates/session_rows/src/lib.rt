@@ -1,0 +1,9 @@
+//! Worked cases of device engagement, of its text, and of the transcript of a session, as tests alone.
+#![tactic(auto)]
+
+#[cfg(test)]
+mod engagements;
+#[cfg(test)]
+mod texts;
+#[cfg(test)]
+mod transcripts;
