@@ -1,6 +1,9 @@
 pub mod Asked
 pub mod Checks
 pub mod Draft
+pub mod Known
+pub mod KnownView
 pub mod Spaces
 pub mod Views
 pub mod WishesView
+pub mod Written

@@ -4,6 +4,7 @@
 //! bytes, else with the first check that fails.
 #![tactic(auto)]
 
+mod authentication;
 mod checks;
 mod doc_ask;
 mod doc_draft;
@@ -11,18 +12,25 @@ mod documents;
 mod element;
 mod elements;
 mod faults;
+mod readers;
 mod request;
 mod request_draft;
 mod request_fault;
+mod sharing;
 mod spaces;
 mod wish_draft;
 mod wishes;
+mod written;
 
+pub use cose_msgs::reader_auth_bytes;
 pub use doc_ask::DocAsk;
 pub use doc_draft::DocDraft;
 pub use documents::Documents;
+pub use readers::known_reader;
 pub use request::Request;
 pub use request_draft::RequestDraft;
 pub use request_fault::RequestFault;
+pub use sharing::types_are_send_and_sync;
 pub use wish_draft::WishDraft;
 pub use wishes::Wishes;
+pub use written::write_request;
