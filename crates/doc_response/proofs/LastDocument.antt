@@ -1,8 +1,9 @@
 -- The last document is changed in its place.
-use Rattle.std.proofs.Common.{◌≡◌, ℕ, zero, suc, ◌+◌, List, [], ◌∷◌, length, map, get_or, set, Result, Ok, Err, OnOk, refl, sym, ap, ◌∙◌, arith}
+use Rattle.std.proofs.Common.{◌≡◌, false, ℕ, zero, suc, ◌+◌, List, [], ◌∷◌, length, map, get_or, set, Result, Ok, Err, OnOk, refl, sym, ap, ◌∙◌, arith}
+use Rattle.std.specs.List.{list_any}
 use Rattle.doc_response.specs.declared.draft_document.DraftDocument.{DraftDocument}
 use Rattle.doc_response.specs.Answered.{Answered}
-use Rattle.doc_response.specs.Draft.{Document, last_changed}
+use Rattle.doc_response.specs.Draft.{Document, has_missing, is_element, last_changed}
 use Rattle.doc_response.specs.DraftView.{document_seen}
 
 abbrev changed : DraftDocument → Answered → DraftDocument
@@ -27,3 +28,16 @@ last-set (d ∷ (e ∷ ds)) (suc i) change old now len is now_is =
 pub on-ok : {A E P Q : Type 0} (r : Result A E) → (P → Q) → OnOk r P → OnOk r Q
 on-ok (Ok x) f p = f p
 on-ok (Err e) f p = p
+
+-- what the last document lacks
+pub has_last : (documents : List DraftDocument) (i : ℕ) (ns name : List ℕ) (d : DraftDocument) → length documents ≡ i + 1 →
+    has_missing ns name (map document_seen documents) ≡ list_any (is_element ns name) (get_or documents i d).answered.missing
+has_last [] i ns name d len = absurd (omega arith)
+has_last (x ∷ []) zero ns name d len = refl
+has_last (x ∷ []) (suc i) ns name d len = absurd (omega arith)
+has_last (x ∷ (y ∷ documents)) zero ns name d len = absurd (omega arith)
+has_last (x ∷ (y ∷ documents)) (suc i) ns name d len = has_last (y ∷ documents) i ns name d (omega arith)
+
+pub has_none : (documents : List DraftDocument) (ns name : List ℕ) → length documents ≡ 0 → has_missing ns name (map document_seen documents) ≡ false
+has_none [] ns name len = refl
+has_none (x ∷ documents) ns name len = absurd (omega arith)

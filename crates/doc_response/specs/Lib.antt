@@ -12,3 +12,4 @@ pub mod ResponseItems
 pub mod ResponseErrors
 pub mod ResponseDocs
 pub mod ResponseRead
+pub mod DeviceMac

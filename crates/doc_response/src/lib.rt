@@ -7,7 +7,9 @@
 #![tactic(auto)]
 
 mod answered_document;
+mod authentication;
 mod device_auth;
+
 mod device_part;
 mod draft_document;
 mod faults;
@@ -25,10 +27,13 @@ mod response_draft;
 mod response_errors;
 mod response_fault;
 mod response_items;
+mod sharing;
 mod writing;
 
 pub use answered_document::AnsweredDocument;
+pub use cose_msgs::device_auth_bytes;
 pub use device_auth::DeviceAuth;
+pub use authentication::{device_mac, mac_key};
 pub use groups::{put_document_error, put_errors, put_items};
 pub use missing_element::MissingElement;
 pub use released_item::ReleasedItem;
@@ -39,4 +44,5 @@ pub use response_draft::ResponseDraft;
 pub use response_errors::ResponseErrors;
 pub use response_fault::ResponseFault;
 pub use response_items::ResponseItems;
+pub use sharing::types_are_send_and_sync;
 pub use writing::respond;

@@ -1,9 +1,13 @@
 //! A response that is being put together.
 
-ghost use Rattle.std.specs.Prelude.{◌<◌, ◌^◌, length, OnOk};
+ghost use Rattle.std.specs.Prelude.{◌≡◌, ◌<◌, ◌^◌, length, map, OnOk};
+ghost use Rattle.std.specs.List.{list_any};
+ghost use Rattle.doc_response.specs.AnsweredView.{element_seen};
+ghost use Rattle.doc_response.specs.Draft.{has_missing, is_element};
+ghost use Rattle.doc_response.specs.DraftView.{document_seen};
 
 use crate::draft_document::DraftDocument;
-use crate::{AnsweredDocument, DeviceAuth};
+use crate::{AnsweredDocument, DeviceAuth, MissingElement};
 use mdoc_outside::Memory;
 use std::alloc::Global;
 use std::marker::Model;
@@ -32,6 +36,30 @@ impl<'a> Model for ResponseDraft<'a> {
     ghost view = { λ d. record { status = d.status; documents = map document_seen d.documents.items; nothing = map text_seen d.nothing.items } };
 }
 
+/// Whether the last of the documents lacks that element.
+#[tactic(auto, using(crate::proofs::LastDocument::has_last, crate::proofs::LastDocument::has_none))]
+fn last_has_missing(documents: &[DraftDocument<'_>], ns: &str, name: &str) -> bool
+    ensures { result ≡ has_missing ns.now name.now (map document_seen documents.now) }
+{
+    if documents.is_empty() {
+        return false;
+    }
+    let last = &documents[documents.len() - 1];
+    is_missing(last.answered.missing_elements(), ns, name)
+}
+
+/// Whether an element is one of these.
+fn is_missing(missing: &[MissingElement<'_>], ns: &str, name: &str) -> bool
+    ensures { result ≡ list_any (is_element ns.now name.now) (map element_seen missing.now) }
+{
+    for element in missing {
+        if element.ns == ns && element.name == name {
+            return true;
+        }
+    }
+    false
+}
+
 /// Refuses a text that has no spelling.
 fn spelled(text: &str) -> Result<(), Memory>
     ensures { OnOk result (length text.now < 2 ^ 32) }
@@ -44,7 +72,7 @@ fn spelled(text: &str) -> Result<(), Memory>
 }
 
 impl<'a> ResponseDraft<'a> {
-    ghost use Rattle.std.specs.Prelude.{◌≡◌, ◌<◌, ◌≤◌, ◌^◌, false, length, map, OnOk, OnErr, IsOk};
+    ghost use Rattle.std.specs.Prelude.{◌≡◌, ◌<◌, ◌≤◌, ◌^◌, ◌↔◌, IsTrue, false, length, map, OnOk, OnErr, IsOk};
     ghost use Rattle.cbor_view.specs.Reading.{reads, tree_of};
     ghost use Rattle.cbor_view.specs.Tree.{levels};
     ghost use Rattle.issuer_items.specs.Item.{item};
@@ -69,6 +97,20 @@ impl<'a> ResponseDraft<'a> {
         ensures { result ≡ self.now.status }
     {
         self.status
+    }
+
+    /// Whether a document was added, to which items may be.
+    pub fn has_document(&self) -> bool
+        ensures { IsTrue result ↔ (0 < length self.now.documents) }
+    {
+        !self.documents().is_empty()
+    }
+
+    /// Whether the last document lacks that element already.
+    pub fn has_missing(&self, ns: &str, name: &str) -> bool
+        ensures { result ≡ has_missing ns.now name.now self.now.documents }
+    {
+        last_has_missing(self.documents(), ns, name)
     }
 
     /// The documents that were added.
