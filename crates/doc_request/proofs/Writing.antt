@@ -1,12 +1,11 @@
 -- What is written piece by piece, as the definitions say it at once.
-use Rattle.std.proofs.Common.{◌≡◌, ℕ, zero, suc, ◌+◌, ◌<◌, length, Bool, true, false, cond, List, [], ◌∷◌, ◌++◌, map, take, drop, Option, Some, None, refl, sym, ap, arith, ◌∙◌, append_assoc, add-one, drop-cons, get_or}
-use Rattle.std.specs.Prelude.{filter, flat_map, slice_get}
-use Rattle.std.specs.List.{list_any}
-use Rattle.std.proofs.lemmas.List.{length-map, take_more}
-use Rattle.cbor_view.specs.Shortest.{map_bytes, shortest_head, text_bytes}
+use Rattle.std.proofs.Common.{◌≡◌, ℕ, suc, ◌+◌, length, List, [], ◌∷◌, ◌++◌, map, refl, sym, ap, ◌∙◌, append_assoc}
+use Rattle.std.specs.Prelude.{filter, flat_map}
+use Rattle.std.proofs.lemmas.List.{length-map}
+use Rattle.cbor_view.specs.Shortest.{shortest_head, text_bytes}
 use Rattle.doc_request.specs.declared.doc_draft.DocDraft.{DocDraft}
 use Rattle.doc_request.specs.declared.wish_draft.WishDraft.{WishDraft}
-use Rattle.doc_request.specs.Written.{document_map, document_maps, entry_bytes, is_in, name_entry, openers, space_entry}
+use Rattle.doc_request.specs.Written.{document_maps, entry_bytes, is_in, name_entry, space_entry}
 
 -- a namespace with its names, from what each call leaves
 pub space_written : (old with_text with_head now ns : List ℕ) (count : ℕ) (wishes : List WishDraft) →
