@@ -2,7 +2,11 @@ pub mod BothFaults
 pub mod Each
 pub mod FirstFaults
 pub mod FirstsLemmas
+pub mod Grouping
+pub mod GroupsRead
+pub mod ItemsWritten
 pub mod LastDocument
 pub mod Opened
 pub mod PutFields
+pub mod StatusWritten
 pub mod WriterLemmas

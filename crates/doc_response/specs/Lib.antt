@@ -13,3 +13,4 @@ pub mod ResponseErrors
 pub mod ResponseDocs
 pub mod ResponseRead
 pub mod DeviceMac
+pub mod WrittenReads

@@ -3,19 +3,19 @@
 //!
 //! The one contract: what is written is the released items and the issuer's signatures as they are stored, with an
 //! error of code 0 for all else that was asked for; a response is read exactly where an item is one, else
-//! with the first fault, and what was written is read as it was given.
+//! with the first of its faults.
 #![tactic(auto)]
 
 mod answered_document;
 mod authentication;
 mod device_auth;
-
 mod device_part;
 mod draft_document;
 mod faults;
 mod groups;
 mod issuer_part;
 mod kinds;
+mod laws;
 mod missing_element;
 mod namespaces;
 mod reading;
@@ -31,10 +31,11 @@ mod sharing;
 mod writing;
 
 pub use answered_document::AnsweredDocument;
+pub use authentication::{device_mac, mac_key};
 pub use cose_msgs::device_auth_bytes;
 pub use device_auth::DeviceAuth;
-pub use authentication::{device_mac, mac_key};
 pub use groups::{put_document_error, put_errors, put_items};
+pub use laws::{written_items_are_read, written_status_is_read};
 pub use missing_element::MissingElement;
 pub use released_item::ReleasedItem;
 pub use response::Response;
