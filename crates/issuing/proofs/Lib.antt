@@ -1,0 +1,10 @@
+pub mod SpecElementLemmas
+pub mod SpecForms
+pub mod SpecHeaderLemmas
+pub mod SpecLaws
+pub mod SpecMandatory
+pub mod SpecNamespaceLemmas
+pub mod SpecNumbers
+pub mod SpecPrefix
+pub mod SpecTimes
+pub mod SpecValues

@@ -1,0 +1,192 @@
+//! The words of a line of a spec file.
+
+ghost use Rattle.std.specs.Prelude.{◌≡◌, ◌==◌, ℕ, List, IfOk, IfSome, IsTrue, map, option_map};
+ghost use Rattle.std.specs.Borrow.{Bor};
+ghost use Rattle.std.specs.Char.{is_ascii_digit};
+ghost use Rattle.std.specs.List.{list_all, zip};
+ghost use Rattle.key_device.specs.TapeLine.{is_decimal};
+ghost use Rattle.mdl_table.specs.Form.{has_form, stands_for};
+ghost use Rattle.mdoc_outside.specs.FileLine.{line};
+ghost use Rattle.mdoc_outside.specs.Lines.{after_spaces, words};
+ghost use Rattle.mdoc_outside.specs.WordForm.{is_name};
+ghost use Rattle.issuing.specs.SpecWords.{name_of, number_of, number_within, truth_of, bytes_of, date_of, behind_word, behind_four_words, behind_space};
+
+use hex::FromHexError;
+use mdoc_outside::{FileLine, Memory, Octets, is_name};
+use std::alloc::{AllocError, Global};
+use std::str;
+
+/// The words of the line, in order.
+pub(crate) fn word_list<'a>(
+    alloc: Global,
+    file_line: &FileLine<'a>,
+) -> Result<Vec<&'a [u8]>, AllocError>
+    ensures { IfOk result (λ list. map (λ (word : Bor (List ℕ)). word.now) list.items ≡ words (line file_line.now).bytes) }
+{
+    file_line.words().collect(alloc)
+}
+
+/// A copy of a name.
+pub(crate) fn name_of(alloc: Global, word: &[u8]) -> Result<Option<Octets>, Memory>
+    ensures exact { IfOk result (λ name. name ≡ name_of word.now) }
+    ensures name { IfOk result (λ name. IfSome name (λ n. IsTrue (is_name n))) }
+{
+    if !is_name(word) {
+        return Ok(None);
+    }
+    Ok(Some(Octets::copy_of(alloc, word)?))
+}
+
+fn is_digits(word: &[u8]) -> bool
+    ensures { result ≡ list_all is_ascii_digit word.now }
+{
+    word.iter().all(|byte| byte.is_ascii_digit())
+}
+
+/// Whether a word is decimal digits without a leading zero.
+fn is_decimal(word: &[u8]) -> bool
+    ensures { result ≡ is_decimal word.now }
+{
+    if word.is_empty() {
+        return false;
+    }
+    if !is_digits(word) {
+        return false;
+    }
+    word.len() == 1 || word[0] != b'0'
+}
+
+/// A decimal number below 2^64.
+#[tactic(auto, using(crate::proofs::SpecNumbers::parsed, crate::proofs::SpecNumbers::decimal_utf8), unfolding(crate::specs::SpecWords::number_of))]
+pub(crate) fn number_of(word: &[u8]) -> Option<u64>
+    ensures { result ≡ number_of word.now }
+{
+    if !is_decimal(word) {
+        return None;
+    }
+    match str::from_utf8(word) {
+        Ok(text) => text.parse::<u64>().ok(),
+        Err(_) => None,
+    }
+}
+
+/// A decimal number from the least to the most.
+pub(crate) fn number_within(least: u32, most: u32, word: &[u8]) -> Option<u32>
+    ensures { result ≡ number_within least most word.now }
+{
+    let number = number_of(word)?;
+    if u64::from(least) <= number && number <= u64::from(most) {
+        Some(number as u32)
+    } else {
+        None
+    }
+}
+
+/// `true` or `false`.
+pub(crate) fn truth_of(word: &[u8]) -> Option<bool>
+    ensures { result ≡ truth_of word.now }
+{
+    match word {
+        b"true" => Some(true),
+        b"false" => Some(false),
+        _ => None,
+    }
+}
+
+/// Bytes in hexadecimal digits of either case, and `-` for no bytes.
+pub(crate) fn bytes_of(alloc: Global, word: &[u8]) -> Result<Option<Octets>, Memory>
+    ensures { IfOk result (λ bytes. bytes ≡ bytes_of word.now) }
+{
+    match word {
+        b"-" => Ok(Some(Octets::from_vec(Vec::new(alloc)))),
+        _ => match hex::decode(alloc, word) {
+            Ok(bytes) => Ok(Some(Octets::from_vec(bytes))),
+            Err(FromHexError::OutOfMemory) => Err(Memory),
+            Err(_) => Ok(None),
+        },
+    }
+}
+
+/// Whether a byte is what the form has at its place: a digit where the form has `0`.
+fn stands_for(wanted: u8, byte: u8) -> bool
+    ensures { result ≡ stands_for wanted byte }
+{
+    if wanted == b'0' {
+        byte.is_ascii_digit()
+    } else {
+        byte == wanted
+    }
+}
+
+/// Whether each byte is what the form has at its place, as far as both go.
+fn all_stand_for(form: &[u8], word: &[u8]) -> bool
+    ensures { result ≡ list_all (λ both. stands_for both.0 both.1) (zip form.now word.now) }
+{
+    form.iter()
+        .zip(word)
+        .all(|(wanted, byte)| stands_for(*wanted, *byte))
+}
+
+/// Whether a word has a form: its length, a digit for each `0`, and else the form's own bytes.
+#[tactic(auto, unfolding(mdl_table::specs::Form::has_form))]
+fn has_form(form: &[u8], word: &[u8]) -> bool
+    ensures { result ≡ has_form form.now word.now }
+{
+    form.len() == word.len() && all_stand_for(form, word)
+}
+
+/// `YYYY-MM-DD` in digits, whether or not the calendar has the day.
+#[tactic(auto, using(crate::proofs::SpecForms::date_utf8))]
+pub(crate) fn date_of(word: &[u8]) -> Option<&str>
+    ensures { option_map (λ t. t.now) result ≡ date_of word.now }
+{
+    if !has_form(b"0000-00-00", word) {
+        return None;
+    }
+    match str::from_utf8(word) {
+        Ok(date) => Some(date),
+        Err(_) => unreachable!(),
+    }
+}
+
+fn after_spaces(bytes: &[u8]) -> &[u8]
+    ensures { result.now ≡ after_spaces bytes.now }
+{
+    let mut left = bytes;
+    while let [b' ', rest @ ..] = left {
+        left = rest;
+    }
+    left
+}
+
+/// What stands behind the first word, from a space on.
+fn behind_word(bytes: &[u8]) -> &[u8]
+    ensures { result.now ≡ behind_word bytes.now }
+{
+    let mut left = bytes;
+    while let [first, rest @ ..] = left {
+        if *first == b' ' {
+            return left;
+        }
+        left = rest;
+    }
+    left
+}
+
+/// What stands behind four words of a line, from a space on.
+fn behind_four_words(bytes: &[u8]) -> &[u8]
+    ensures { result.now ≡ behind_four_words bytes.now }
+{
+    let two = behind_word(after_spaces(behind_word(after_spaces(bytes))));
+    behind_word(after_spaces(behind_word(after_spaces(two))))
+}
+
+/// What stands behind four words of a line and one space.
+pub(crate) fn behind_four_words_and_space(bytes: &[u8]) -> Option<&[u8]>
+    ensures { option_map (λ t. t.now) result ≡ behind_space (behind_four_words bytes.now) }
+{
+    match behind_four_words(bytes) {
+        [b' ', rest @ ..] => Some(rest),
+        _ => None,
+    }
+}
