@@ -6,10 +6,11 @@ use Rattle.std.specs.Str.{bytes_eq}
 use Rattle.std.proofs.lemmas.List.{length-map}
 use Rattle.std.proofs.lemmas.Option.{slice_get-map}
 use Rattle.mdoc_outside.specs.OptionSteps.{◌>>=◌}
-use Rattle.doc_store.specs.Item.{Item, item}
+use Rattle.issuer_items.specs.Item.{Item}
+use Rattle.doc_store.specs.Item.{item}
 use Rattle.doc_store.specs.Store.{Copy, Document, Store}
 use Rattle.doc_store.specs.Held.{is_named, is_item, held, chosen, Place, place_at, item_at, place_of}
-use Rattle.doc_store.specs.Agreement.{Named, named, names, CopyOutline, DocumentOutline, copy_outline, outline, Agree}
+use Rattle.doc_store.specs.Agreement.{ItemName, name_of_item, names, CopyOutline, DocumentOutline, copy_outline, outline, Agree}
 
 -- ---- a search through a map
 
@@ -25,15 +26,15 @@ position-map f p xs = rw (prefix-map f p xs, length-map xs f) refl
 abbrev type_test : List ℕ → DocumentOutline → Bool
 type_test doc_type document = bytes_eq document.doc_type doc_type
 
-abbrev unused : CopyOutline → Bool
-unused copy = not copy.used
+abbrev is_unused_outline : CopyOutline → Bool
+is_unused_outline copy = not copy.used
 
 -- what a document's outline says of the copy to show
 abbrev chosen_of : DocumentOutline → ℕ
-chosen_of document = unwrap_or (position unused document.copies) 0
+chosen_of document = unwrap_or (position is_unused_outline document.copies) 0
 
 chosen-outline : (document : Document) → chosen document ≡ chosen_of (outline document)
-chosen-outline document = ap (λ (found : Option ℕ). unwrap_or found 0) (position-map copy_outline unused document.copies)
+chosen-outline document = ap (λ (found : Option ℕ). unwrap_or found 0) (position-map copy_outline is_unused_outline document.copies)
 
 -- the place of an item, by the outlines of the documents
 abbrev place_in : List DocumentOutline → List ℕ → List ℕ → List ℕ → Option Place
@@ -65,7 +66,7 @@ same_places one other places agree doc_type ns name =
 -- ---- items
 
 -- whether a name of a copy is the one of that namespace and name
-abbrev is_entry : List ℕ → List ℕ → Named → Bool
+abbrev is_entry : List ℕ → List ℕ → ItemName → Bool
 is_entry ns name entry = bytes_eq entry.ns ns && bytes_eq entry.name name
 
 and-false : (b : Bool) → (b && false) ≡ false
@@ -79,11 +80,11 @@ find-any p (x ∷ xs) = either (p x) (find-any p xs) where
   either true rest = refl
   either false rest = rest
 
-entries-any : (ns name : List ℕ) (items : List (List ℕ × List ℕ)) → list_any (is_item ns name) items ≡ list_any (is_entry ns name) (filter_map named items)
+entries-any : (ns name : List ℕ) (items : List (List ℕ × List ℕ)) → list_any (is_item ns name) items ≡ list_any (is_entry ns name) (filter_map name_of_item items)
 entries-any ns name [] = refl
 entries-any ns name (stored ∷ items) = rw (entries-any ns name items) (one (item stored.1)) where
-  one : (read : Option Item) → ((bytes_eq stored.0 ns && is_named name read) || list_any (is_entry ns name) (filter_map named items))
-      ≡ list_any (is_entry ns name) (cons_option (option_map (λ (item : Item). record { ns = stored.0; name = item.name; digest_id = item.digest_id }) read) (filter_map named items))
+  one : (read : Option Item) → ((bytes_eq stored.0 ns && is_named name read) || list_any (is_entry ns name) (filter_map name_of_item items))
+      ≡ list_any (is_entry ns name) (cons_option (option_map (λ (item : Item). record { ns = stored.0; name = item.name; digest_id = item.digest_id }) read) (filter_map name_of_item items))
   one None = rw (and-false (bytes_eq stored.0 ns)) refl
   one (Some item) = refl
 

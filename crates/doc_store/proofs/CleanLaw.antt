@@ -62,13 +62,13 @@ none_past (x ∷ xs) (suc n) =
     let more : nat_le (length xs) n ≡ nat_le (suc (length xs)) (suc n) = grind (arith, nat_tests) in
     none_past xs n ∙ more
 
-clean_passed_at : (limit : LimitName) (most : ℕ) (o : Option PartialItem) → is_clean (beyond_at limit most o) ≡ is_none o
-clean_passed_at limit most None = refl
-clean_passed_at limit most (Some g) = refl
+clean_beyond_at : (limit : LimitName) (most : ℕ) (o : Option PartialItem) → is_clean (beyond_at limit most o) ≡ is_none o
+clean_beyond_at limit most None = refl
+clean_beyond_at limit most (Some g) = refl
 
 -- a limit on a list
-pub clean_passed : (limit : LimitName) (most : ℕ) (gs : List PartialItem) → is_clean (beyond limit most gs) ≡ nat_le (length gs) most
-clean_passed limit most gs = clean_passed_at limit most (slice_get gs most) ∙ none_past gs most
+pub clean_beyond : (limit : LimitName) (most : ℕ) (gs : List PartialItem) → is_clean (beyond limit most gs) ≡ nat_le (length gs) most
+clean_beyond limit most gs = clean_beyond_at limit most (slice_get gs most) ∙ none_past gs most
 
 -- ---- readings step by step
 

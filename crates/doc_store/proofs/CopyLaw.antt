@@ -5,16 +5,14 @@ use Rattle.std.proofs.lemmas.Bool.Decides.{nat_tests}
 use Rattle.cbor_view.specs.PartialItem.{whole}
 use Rattle.cbor_view.specs.Parts.{Part, uint_in, boolean_in, items_in, pairs_in}
 use Rattle.cbor_view.proofs.ReadParts.{IsRead}
-use Rattle.mdoc_outside.specs.KeyName.{key_text}
 use Rattle.mdoc_outside.specs.declared.key_name.KeyName.TheVariants as keys
 use Rattle.mdoc_outside.specs.OptionSteps.{◌>>=◌, where_true}
-use Rattle.doc_store.specs.Fields.{field}
 use Rattle.doc_store.specs.declared.first_fault.Fault.{Fault}
 use Rattle.doc_store.specs.declared.store_check.StoreCheck.TheVariants as checks
 use Rattle.doc_store.specs.Store.{Copy, within, items_of, copy}
 use Rattle.doc_store.specs.Faults.{fault, if_kind, unless, nothing, key_number, used_faults, auth_of_issuer, spaces_faults, copy_faults}
 use Rattle.doc_store.proofs.CleanLaw.{is_clean, clean_unless, some_where}
-use Rattle.doc_store.proofs.KeyLaw.{holds, Asked, all_hold, clean_map}
+use Rattle.doc_store.proofs.KeyLaw.{holds, FieldTest, all_hold, clean_map, value_in, field_value, field_any}
 use Rattle.doc_store.proofs.SpaceLaw.{clean_spaces}
 
 -- ---- readings step by step
@@ -51,10 +49,10 @@ clean_number p = go (uint_in p) where
   go None = refl
   go (Some n) = clean_unless (nat_lt n (2 ^ 32)) (fault (checks.Field keys.Key) (whole p)) ∙ sym (some_where (nat_lt n (2 ^ 32)) n)
 
-regrouped_key : {B : Type 0} (o : Option Part) (others : ℕ → Option B) →
+regroup_key : {B : Type 0} (o : Option Part) (others : ℕ → Option B) →
     ((o >>= uint_in) >>= λ key. small_key key >>= others) ≡ (((o >>= uint_in) >>= small_key) >>= others)
-regrouped_key None others = refl
-regrouped_key {B} (Some value) others = go (uint_in value) where
+regroup_key None others = refl
+regroup_key {B} (Some value) others = go (uint_in value) where
   go : (x : Option ℕ) → (x >>= λ key. small_key key >>= others) ≡ ((x >>= small_key) >>= others)
   go None = refl
   go (Some key) = refl
@@ -72,12 +70,12 @@ clean_used p = go (boolean_in p) where
 four : (n : ℕ) → (n == 4) ≡ (nat_le 4 n && nat_le n 4)
 four n = grind (arith, nat_tests)
 
-abbrev auth_told : Part → Option ℕ → List Fault
-auth_told p o = if_kind (fault (checks.Field keys.IssuerAuth) (whole p) ∷ []) (λ (n : ℕ). unless (n == 4) (fault (checks.Field keys.IssuerAuth) (whole p))) o
+abbrev faults_of_auth : Part → Option ℕ → List Fault
+faults_of_auth p o = if_kind (fault (checks.Field keys.IssuerAuth) (whole p) ∷ []) (λ (n : ℕ). unless (n == 4) (fault (checks.Field keys.IssuerAuth) (whole p))) o
 
 clean_auth : (p : Part) → is_clean (auth_of_issuer (whole p)) ≡ is_some (items_in p >>= within 4 4)
 clean_auth p = go (items_in p) where
-  go : (o : Option (List Part)) → is_clean (auth_told p (option_map (λ (parts : List Part). length parts) o)) ≡ is_some (o >>= within 4 4)
+  go : (o : Option (List Part)) → is_clean (faults_of_auth p (option_map (λ (parts : List Part). length parts) o)) ≡ is_some (o >>= within 4 4)
   go None = refl
   go (Some parts) =
       clean_unless (length parts == 4) (fault (checks.Field keys.IssuerAuth) (whole p)) ∙ four (length parts)
@@ -93,61 +91,69 @@ some_auth {B} (Some auth) others c rest = go (items_in auth >>= within 4 4) wher
 
 -- ---- a copy
 
-abbrev key_asked : Asked
-key_asked = record { key = record { name = keys.Key; value = key_number }; test = λ value. is_some (uint_in value >>= small_key); law = λ value read. clean_number value }
+abbrev key_field : FieldTest
+key_field = record { key = record { name = keys.Key; value = key_number }; test = λ value. is_some (uint_in value >>= small_key); law = λ value read. clean_number value }
 
-abbrev used_asked : Asked
-used_asked = record { key = record { name = keys.Used; value = used_faults }; test = λ value. is_some (boolean_in value); law = λ value read. clean_used value }
+abbrev used_field : FieldTest
+used_field = record { key = record { name = keys.Used; value = used_faults }; test = λ value. is_some (boolean_in value); law = λ value read. clean_used value }
 
-abbrev auth_asked : Asked
-auth_asked = record { key = record { name = keys.IssuerAuth; value = auth_of_issuer }; test = λ value. is_some (items_in value >>= within 4 4); law = λ value read. clean_auth value }
+abbrev auth_field : FieldTest
+auth_field = record { key = record { name = keys.IssuerAuth; value = auth_of_issuer }; test = λ value. is_some (items_in value >>= within 4 4); law = λ value read. clean_auth value }
 
-abbrev spaces_asked : Asked
-spaces_asked = record { key = record { name = keys.NameSpaces; value = spaces_faults }; test = λ value. is_some (pairs_in value >>= items_of); law = clean_spaces }
+abbrev spaces_field : FieldTest
+spaces_field = record { key = record { name = keys.NameSpaces; value = spaces_faults }; test = λ value. is_some (pairs_in value >>= items_of); law = clean_spaces }
 
-abbrev copy_asked : List Asked
-copy_asked = used_asked ∷ auth_asked ∷ spaces_asked ∷ []
+abbrev other_fields : List FieldTest
+other_fields = used_field ∷ auth_field ∷ spaces_field ∷ []
 
-regrouped_spaces : {B : Type 0} (o : Option Part) (others : List (List ℕ × List ℕ) → Option B) →
+regroup_spaces : {B : Type 0} (o : Option Part) (others : List (List ℕ × List ℕ) → Option B) →
     ((o >>= pairs_in) >>= λ spaces. items_of spaces >>= others) ≡ (((o >>= pairs_in) >>= items_of) >>= others)
-regrouped_spaces None others = refl
-regrouped_spaces {B} (Some value) others = go (pairs_in value) where
+regroup_spaces None others = refl
+regroup_spaces {B} (Some value) others = go (pairs_in value) where
   go : (x : Option (List (Part × Part))) → (x >>= λ spaces. items_of spaces >>= others) ≡ ((x >>= items_of) >>= others)
   go None = refl
   go (Some spaces) = refl
 
-abbrev made : ℕ → Bool → Part → List (List ℕ × List ℕ) → Copy
-made key used auth items = record { key = key; used = used; issuer_auth = auth.bytes; items = items }
+abbrev copy_of_fields : ℕ → Bool → Part → List (List ℕ × List ℕ) → Copy
+copy_of_fields key used auth items = record { key = key; used = used; issuer_auth = auth.bytes; items = items }
 
-abbrev behind_auth : Part → ℕ → Bool → Part → Option Copy
-behind_auth p key used auth = (field (key_text keys.NameSpaces) p >>= pairs_in) >>= λ spaces. items_of spaces >>= λ items. Some (made key used auth items)
+abbrev after_auth : Part → ℕ → Bool → Part → Option Copy
+after_auth p key used auth = (value_in keys.NameSpaces p >>= pairs_in) >>= λ spaces. items_of spaces >>= λ items. Some (copy_of_fields key used auth items)
 
-abbrev behind_used : Part → ℕ → Bool → Option Copy
-behind_used p key used = field (key_text keys.IssuerAuth) p >>= λ auth. (items_in auth >>= within 4 4) >>= λ parts. behind_auth p key used auth
+abbrev after_used : Part → ℕ → Bool → Option Copy
+after_used p key used = value_in keys.IssuerAuth p >>= λ auth. (items_in auth >>= within 4 4) >>= λ parts. after_auth p key used auth
 
-abbrev behind_key : Part → ℕ → Option Copy
-behind_key p key = (field (key_text keys.Used) p >>= boolean_in) >>= λ used. behind_used p key used
+abbrev after_key : Part → ℕ → Option Copy
+after_key p key = (value_in keys.Used p >>= boolean_in) >>= λ used. after_used p key used
 
-some_behind_auth : (p : Part) (key : ℕ) (used : Bool) (auth : Part) → is_some (behind_auth p key used auth) ≡ all_hold p (spaces_asked ∷ [])
-some_behind_auth p key used auth =
-    ap (λ (o : Option Copy). is_some o) (regrouped_spaces (field (key_text keys.NameSpaces) p) (λ items. Some (made key used auth items)))
-    ∙ some_then (λ (o : Option Part). (o >>= pairs_in) >>= items_of) (field (key_text keys.NameSpaces) p) (λ items. Some (made key used auth items)) true refl (λ items. refl)
+some_after_auth : (p : Part) (key : ℕ) (used : Bool) (auth : Part) → is_some (after_auth p key used auth) ≡ all_hold p (spaces_field ∷ [])
+some_after_auth p key used auth =
+    ap (λ (o : Option Copy). is_some o) (regroup_spaces (value_in keys.NameSpaces p) (λ items. Some (copy_of_fields key used auth items)))
+    ∙ some_then (λ (o : Option Part). (o >>= pairs_in) >>= items_of) (value_in keys.NameSpaces p) (λ items. Some (copy_of_fields key used auth items)) true refl (λ items. refl)
 
-some_behind_used : (p : Part) (key : ℕ) (used : Bool) → is_some (behind_used p key used) ≡ all_hold p (auth_asked ∷ spaces_asked ∷ [])
-some_behind_used p key used =
-    some_auth (field (key_text keys.IssuerAuth) p) (λ auth. behind_auth p key used auth) (all_hold p (spaces_asked ∷ [])) (λ auth. some_behind_auth p key used auth)
+some_after_used : (p : Part) (key : ℕ) (used : Bool) → is_some (after_used p key used) ≡ all_hold p (auth_field ∷ spaces_field ∷ [])
+some_after_used p key used =
+    some_auth (value_in keys.IssuerAuth p) (λ auth. after_auth p key used auth) (all_hold p (spaces_field ∷ [])) (λ auth. some_after_auth p key used auth)
 
-some_behind_key : (p : Part) (key : ℕ) → is_some (behind_key p key) ≡ all_hold p copy_asked
-some_behind_key p key =
-    some_then (λ (o : Option Part). o >>= boolean_in) (field (key_text keys.Used) p) (λ used. behind_used p key used) (all_hold p (auth_asked ∷ spaces_asked ∷ [])) refl
-    (λ used. some_behind_used p key used)
+some_after_key : (p : Part) (key : ℕ) → is_some (after_key p key) ≡ all_hold p other_fields
+some_after_key p key =
+    some_then (λ (o : Option Part). o >>= boolean_in) (value_in keys.Used p) (λ used. after_used p key used) (all_hold p (auth_field ∷ spaces_field ∷ [])) refl
+    (λ used. some_after_used p key used)
 
-some_copy : (p : Part) → is_some (copy p) ≡ all_hold p (key_asked ∷ copy_asked)
+abbrev copy_by : Part → Option Copy
+copy_by p = (value_in keys.Key p >>= uint_in) >>= λ key. small_key key >>= λ small. after_key p small
+
+copy_values : (p : Part) → copy p ≡ copy_by p
+copy_values p =
+    rw (field_value keys.Key uint_in p, field_value keys.Used boolean_in p, field_any keys.IssuerAuth p, field_value keys.NameSpaces pairs_in p) refl
+
+some_copy : (p : Part) → is_some (copy p) ≡ all_hold p (key_field ∷ other_fields)
 some_copy p =
-    ap (λ (o : Option Copy). is_some o) (regrouped_key (field (key_text keys.Key) p) (λ key. behind_key p key))
-    ∙ some_then (λ (o : Option Part). (o >>= uint_in) >>= small_key) (field (key_text keys.Key) p) (λ key. behind_key p key) (all_hold p copy_asked) refl
-    (λ key. some_behind_key p key)
+    ap (λ (o : Option Copy). is_some o) (copy_values p)
+    ∙ ap (λ (o : Option Copy). is_some o) (regroup_key (value_in keys.Key p) (λ key. after_key p key))
+    ∙ some_then (λ (o : Option Part). (o >>= uint_in) >>= small_key) (value_in keys.Key p) (λ key. after_key p key) (all_hold p other_fields) refl
+    (λ key. some_after_key p key)
 
 -- nothing is wrong with a copy exactly where it is read
 pub clean_copy : (p : Part) → IsRead p → is_clean (copy_faults (whole p)) ≡ is_some (copy p)
-clean_copy p read = clean_map key_asked copy_asked p read ∙ sym (some_copy p)
+clean_copy p read = clean_map key_field other_fields p read ∙ sym (some_copy p)

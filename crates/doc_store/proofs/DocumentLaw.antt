@@ -7,16 +7,14 @@ use Rattle.std.proofs.lemmas.Bool.Decides.{nat_tests}
 use Rattle.cbor_view.specs.PartialItem.{PartialItem, whole}
 use Rattle.cbor_view.specs.Parts.{Part, uint_in, items_in}
 use Rattle.cbor_view.proofs.ReadParts.{IsRead, items_read}
-use Rattle.mdoc_outside.specs.KeyName.{key_text}
 use Rattle.mdoc_outside.specs.declared.key_name.KeyName.TheVariants as keys
 use Rattle.mdoc_outside.specs.declared.limit_name.LimitName.TheVariants as limits
 use Rattle.mdoc_outside.specs.OptionSteps.{◌>>=◌, where_true, each}
-use Rattle.doc_store.specs.Fields.{field}
 use Rattle.doc_store.specs.declared.store_check.StoreCheck.TheVariants as checks
 use Rattle.doc_store.specs.Store.{Copy, Document, name_in, within, copy, is_mac, document}
 use Rattle.doc_store.specs.Faults.{fault, if_kind, unless, beyond, doc_type_faults, auth_faults, copy_faults, copies_faults, copy_list_faults, document_faults, no_copy}
-use Rattle.doc_store.proofs.CleanLaw.{is_clean, and_false, and_true, clean_joined, and_same, clean_unless, clean_passed, clean_each}
-use Rattle.doc_store.proofs.KeyLaw.{Asked, all_hold, clean_map}
+use Rattle.doc_store.proofs.CleanLaw.{is_clean, and_false, and_true, clean_joined, and_same, clean_unless, clean_beyond, clean_each}
+use Rattle.doc_store.proofs.KeyLaw.{FieldTest, all_hold, clean_map, value_in, field_value}
 use Rattle.doc_store.proofs.SpaceLaw.{clean_name}
 use Rattle.doc_store.proofs.CopyLaw.{some_then, clean_copy}
 
@@ -62,7 +60,7 @@ clean_parts p parts read =
     ∙ and_same _ _ _ _
     (clean_no_copy (whole p) (map whole parts) ∙ ap (nat_le 1) same)
     (clean_each IsRead whole copy_faults copy clean_copy parts read))
-    (clean_passed limits.Copies 64 (map whole parts) ∙ ap (λ (n : ℕ). nat_le n 64) same)
+    (clean_beyond limits.Copies 64 (map whole parts) ∙ ap (λ (n : ℕ). nat_le n 64) same)
     ∙ copies_within (nat_le 1 (length parts)) (nat_le (length parts) 64) parts
 
 clean_copies : (p : Part) → IsRead p → is_clean (copies_faults (whole p)) ≡ is_some ((items_in p >>= within 1 64) >>= each copy)
@@ -74,46 +72,51 @@ clean_copies p read = go (items_in p) refl where
 
 -- ---- a document
 
-abbrev type_asked : Asked
-type_asked = record { key = record { name = keys.DocType; value = doc_type_faults }; test = λ value. is_some (name_in value); law = λ value read. clean_name (checks.Field keys.DocType) value }
+abbrev type_field : FieldTest
+type_field = record { key = record { name = keys.DocType; value = doc_type_faults }; test = λ value. is_some (name_in value); law = λ value read. clean_name (checks.Field keys.DocType) value }
 
-abbrev mac_asked : Asked
-mac_asked = record { key = record { name = keys.Auth; value = auth_faults }; test = λ value. is_some (uint_in value >>= is_mac); law = λ value read. clean_mac value }
+abbrev mac_field : FieldTest
+mac_field = record { key = record { name = keys.Auth; value = auth_faults }; test = λ value. is_some (uint_in value >>= is_mac); law = λ value read. clean_mac value }
 
-abbrev copies_asked : Asked
-copies_asked = record { key = record { name = keys.Copies; value = copies_faults }; test = λ value. is_some ((items_in value >>= within 1 64) >>= each copy); law = clean_copies }
+abbrev copies_field : FieldTest
+copies_field = record { key = record { name = keys.Copies; value = copies_faults }; test = λ value. is_some ((items_in value >>= within 1 64) >>= each copy); law = clean_copies }
 
-abbrev made : List ℕ → Bool → List Copy → Document
-made doc_type uses_mac copies = record { doc_type = doc_type; uses_mac = uses_mac; copies = copies }
+abbrev document_of_fields : List ℕ → Bool → List Copy → Document
+document_of_fields doc_type uses_mac copies = record { doc_type = doc_type; uses_mac = uses_mac; copies = copies }
 
-abbrev behind_mac : Part → List ℕ → Bool → Option Document
-behind_mac p doc_type uses_mac = (((field (key_text keys.Copies) p >>= items_in) >>= within 1 64) >>= each copy) >>= λ copies. Some (made doc_type uses_mac copies)
+abbrev after_mac : Part → List ℕ → Bool → Option Document
+after_mac p doc_type uses_mac = (((value_in keys.Copies p >>= items_in) >>= within 1 64) >>= each copy) >>= λ copies. Some (document_of_fields doc_type uses_mac copies)
 
-abbrev pub behind_type : Part → List ℕ → Option Document
-behind_type p doc_type = ((field (key_text keys.Auth) p >>= uint_in) >>= is_mac) >>= λ uses_mac. behind_mac p doc_type uses_mac
+abbrev pub after_type : Part → List ℕ → Option Document
+after_type p doc_type = ((value_in keys.Auth p >>= uint_in) >>= is_mac) >>= λ uses_mac. after_mac p doc_type uses_mac
 
 -- the type stays what it was
-pub type_kept : (p : Part) (doc_type : List ℕ) (d : Document) → behind_type p doc_type ≡ Some d → doc_type ≡ d.doc_type
-type_kept p doc_type d is = go ((field (key_text keys.Auth) p >>= uint_in) >>= is_mac) (((field (key_text keys.Copies) p >>= items_in) >>= within 1 64) >>= each copy) is where
-  go : (a : Option Bool) (c : Option (List Copy)) → (a >>= λ uses_mac. c >>= λ copies. Some (made doc_type uses_mac copies)) ≡ Some d → doc_type ≡ d.doc_type
+pub type_stays : (p : Part) (doc_type : List ℕ) (d : Document) → after_type p doc_type ≡ Some d → doc_type ≡ d.doc_type
+type_stays p doc_type d is = go ((value_in keys.Auth p >>= uint_in) >>= is_mac) (((value_in keys.Copies p >>= items_in) >>= within 1 64) >>= each copy) is where
+  go : (a : Option Bool) (c : Option (List Copy)) → (a >>= λ uses_mac. c >>= λ copies. Some (document_of_fields doc_type uses_mac copies)) ≡ Some d → doc_type ≡ d.doc_type
   go None c e = cc
   go (Some uses_mac) None e = cc
-  go (Some uses_mac) (Some copies) e = let same : made doc_type uses_mac copies ≡ d = cc in ap (λ (x : Document). x.doc_type) same
+  go (Some uses_mac) (Some copies) e = let same : document_of_fields doc_type uses_mac copies ≡ d = cc in ap (λ (x : Document). x.doc_type) same
 
-some_behind_mac : (p : Part) (doc_type : List ℕ) (uses_mac : Bool) → is_some (behind_mac p doc_type uses_mac) ≡ all_hold p (copies_asked ∷ [])
-some_behind_mac p doc_type uses_mac =
-    some_then (λ (o : Option Part). ((o >>= items_in) >>= within 1 64) >>= each copy) (field (key_text keys.Copies) p) (λ copies. Some (made doc_type uses_mac copies)) true refl (λ copies. refl)
+some_after_mac : (p : Part) (doc_type : List ℕ) (uses_mac : Bool) → is_some (after_mac p doc_type uses_mac) ≡ all_hold p (copies_field ∷ [])
+some_after_mac p doc_type uses_mac =
+    some_then (λ (o : Option Part). ((o >>= items_in) >>= within 1 64) >>= each copy) (value_in keys.Copies p) (λ copies. Some (document_of_fields doc_type uses_mac copies)) true refl (λ copies. refl)
 
-some_behind_type : (p : Part) (doc_type : List ℕ) → is_some (behind_type p doc_type) ≡ all_hold p (mac_asked ∷ copies_asked ∷ [])
-some_behind_type p doc_type =
-    some_then (λ (o : Option Part). (o >>= uint_in) >>= is_mac) (field (key_text keys.Auth) p) (λ uses_mac. behind_mac p doc_type uses_mac) (all_hold p (copies_asked ∷ [])) refl
-    (λ uses_mac. some_behind_mac p doc_type uses_mac)
+some_after_type : (p : Part) (doc_type : List ℕ) → is_some (after_type p doc_type) ≡ all_hold p (mac_field ∷ copies_field ∷ [])
+some_after_type p doc_type =
+    some_then (λ (o : Option Part). (o >>= uint_in) >>= is_mac) (value_in keys.Auth p) (λ uses_mac. after_mac p doc_type uses_mac) (all_hold p (copies_field ∷ [])) refl
+    (λ uses_mac. some_after_mac p doc_type uses_mac)
 
-some_document : (p : Part) → is_some (document p) ≡ all_hold p (type_asked ∷ mac_asked ∷ copies_asked ∷ [])
+-- a document by the values under its keys
+pub document_values : (p : Part) → document p ≡ ((value_in keys.DocType p >>= name_in) >>= λ doc_type. after_type p doc_type)
+document_values p = rw (field_value keys.DocType name_in p, field_value keys.Auth uint_in p, field_value keys.Copies items_in p) refl
+
+some_document : (p : Part) → is_some (document p) ≡ all_hold p (type_field ∷ mac_field ∷ copies_field ∷ [])
 some_document p =
-    some_then (λ (o : Option Part). o >>= name_in) (field (key_text keys.DocType) p) (λ doc_type. behind_type p doc_type) (all_hold p (mac_asked ∷ copies_asked ∷ [])) refl
-    (λ doc_type. some_behind_type p doc_type)
+    ap (λ (o : Option Document). is_some o) (document_values p)
+    ∙ some_then (λ (o : Option Part). o >>= name_in) (value_in keys.DocType p) (λ doc_type. after_type p doc_type) (all_hold p (mac_field ∷ copies_field ∷ [])) refl
+    (λ doc_type. some_after_type p doc_type)
 
 -- nothing is wrong with a document exactly where it is read
 pub clean_document : (p : Part) → IsRead p → is_clean (document_faults (whole p)) ≡ is_some (document p)
-clean_document p read = clean_map type_asked (mac_asked ∷ copies_asked ∷ []) p read ∙ sym (some_document p)
+clean_document p read = clean_map type_field (mac_field ∷ copies_field ∷ []) p read ∙ sym (some_document p)

@@ -12,22 +12,21 @@ use Rattle.cbor_view.proofs.PartialLaws.{read-whole}
 use Rattle.cbor_view.specs.Spelling.{AreBytes}
 use Rattle.cbor_view.proofs.HeadReading.{AreBytes as BytesAre}
 use Rattle.cbor_view.proofs.ReadParts.{IsRead, items_read}
-use Rattle.mdoc_outside.specs.KeyName.{key_text}
 use Rattle.mdoc_outside.specs.declared.key_name.KeyName.TheVariants as keys
 use Rattle.mdoc_outside.specs.declared.limit_name.LimitName.TheVariants as limits
 use Rattle.mdoc_outside.specs.OptionSteps.{◌>>=◌, where_true, each}
-use Rattle.doc_store.specs.Fields.{field, are_distinct}
-use Rattle.doc_store.specs.Item.{spelled}
+use Rattle.doc_store.specs.Fields.{field_of, are_distinct}
+use Rattle.doc_store.specs.Item.{if_spelled}
 use Rattle.doc_store.specs.declared.first_fault.Fault.{Fault}
 use Rattle.doc_store.specs.declared.store_check.StoreCheck.TheVariants as checks
 use Rattle.doc_store.specs.Store.{Document, Store, name_in, within, document, store}
-use Rattle.doc_store.specs.Faults.{fault, if_kind, unless, Entries, entries_or_none, with_text, values_of, repeated, beyond, document_faults, doc_types, version_faults, documents_faults, form_faults, cbor_fault, faults, store_fault}
-use Rattle.doc_store.proofs.CleanLaw.{is_clean, and_false, and_true, clean_first, clean_joined, and_same, clean_unless, clean_passed, some_where, clean_each}
-use Rattle.doc_store.proofs.DistinctLaw.{texts_of, clean_repeated}
-use Rattle.doc_store.proofs.KeyLaw.{both_seen, Asked, all_hold, clean_map, no_field, value_seen}
-use Rattle.doc_store.proofs.SpaceLaw.{name_said, few_enough}
+use Rattle.doc_store.specs.Faults.{fault, if_kind, unless, Entries, entries_or_none, with_text, values_of, repeats, beyond, document_faults, doc_types, version_faults, documents_faults, form_faults, cbor_fault, faults, store_fault}
+use Rattle.doc_store.proofs.CleanLaw.{is_clean, and_false, and_true, clean_first, clean_joined, and_same, clean_unless, clean_beyond, some_where, clean_each}
+use Rattle.doc_store.proofs.DistinctLaw.{texts_of, clean_repeats}
+use Rattle.doc_store.proofs.KeyLaw.{partial_entries, FieldTest, all_hold, clean_map, no_field, value_in, field_value, value_seen}
+use Rattle.doc_store.proofs.SpaceLaw.{name_is_text, few_enough}
 use Rattle.doc_store.proofs.CopyLaw.{some_then, some_last}
-use Rattle.doc_store.proofs.DocumentLaw.{behind_type, type_kept, clean_document}
+use Rattle.doc_store.proofs.DocumentLaw.{after_type, document_values, type_stays, clean_document}
 
 -- ---- the version
 
@@ -49,27 +48,27 @@ text_at p text = (text, whole p)
 -- the type of a document stands there once
 type_seen : (p : Part) (d : Document) → document p ≡ Some d → texts_of (doc_types (whole p)) ≡ d.doc_type ∷ []
 type_seen p d is = by_pairs (pairs_in p) refl where
-  named : (value : Part) (o : Option (List ℕ)) → name_in value ≡ o → (o >>= λ doc_type. behind_type p doc_type) ≡ Some d →
+  named : (value : Part) (o : Option (List ℕ)) → name_in value ≡ o → (o >>= λ doc_type. after_type p doc_type) ≡ Some d →
       texts_of (filter_map with_text (whole value ∷ [])) ≡ d.doc_type ∷ []
   named value None n e = cc
   named value (Some doc_type) n e =
-      let one : with_text (whole value) ≡ Some (text_at value doc_type) = ap (option_map (text_at value)) (name_said value doc_type n) in
-      rw one (ap (λ (text : List ℕ). text ∷ []) (type_kept p doc_type d e))
+      let one : with_text (whole value) ≡ Some (text_at value doc_type) = ap (option_map (text_at value)) (name_is_text value doc_type n) in
+      rw one (ap (λ (text : List ℕ). text ∷ []) (type_stays p doc_type d e))
 
-  by_field : (entries : List (Part × Part)) (o : Option Part) → pairs_in p ≡ Some entries → field (key_text keys.DocType) p ≡ o →
-      ((o >>= name_in) >>= λ doc_type. behind_type p doc_type) ≡ Some d → texts_of (doc_types (whole p)) ≡ d.doc_type ∷ []
+  by_field : (entries : List (Part × Part)) (o : Option Part) → pairs_in p ≡ Some entries → value_in keys.DocType p ≡ o →
+      ((o >>= name_in) >>= λ doc_type. after_type p doc_type) ≡ Some d → texts_of (doc_types (whole p)) ≡ d.doc_type ∷ []
   by_field entries None pairs found e = cc
   by_field entries (Some value) pairs found e =
-      let seen : partial_pairs (whole p) ≡ Some (both_seen entries) = ap (option_map both_seen) pairs in
+      let seen : partial_pairs (whole p) ≡ Some (partial_entries entries) = ap (option_map partial_entries) pairs in
       ap (λ (o : Option Entries). texts_of (filter_map with_text (values_of keys.DocType (entries_or_none o)))) seen
       ∙ ap (λ (gs : List PartialItem). texts_of (filter_map with_text gs)) (value_seen keys.DocType p entries value pairs found)
       ∙ named value (name_in value) refl e
 
   by_pairs : (o : Option (List (Part × Part))) → pairs_in p ≡ o → texts_of (doc_types (whole p)) ≡ d.doc_type ∷ []
   by_pairs None pairs =
-      let none : document p ≡ None = ap (λ (o : Option Part). (o >>= name_in) >>= λ doc_type. behind_type p doc_type) (no_field keys.DocType p pairs) in
+      let none : document p ≡ None = document_values p ∙ ap (λ (o : Option Part). (o >>= name_in) >>= λ doc_type. after_type p doc_type) (no_field keys.DocType p pairs) in
       cc
-  by_pairs (Some entries) pairs = by_field entries (field (key_text keys.DocType) p) pairs refl is
+  by_pairs (Some entries) pairs = by_field entries (value_in keys.DocType p) pairs refl (sym (document_values p) ∙ is)
 
 abbrev types_of : Store → List (List ℕ)
 types_of documents = map (λ (d : Document). d.doc_type) documents
@@ -97,8 +96,8 @@ distinct_types documents = where_true (are_distinct (types_of documents)) docume
 abbrev documents_of : Option Part → Option Store
 documents_of o = (((o >>= items_in) >>= within 0 16) >>= each document) >>= distinct_types
 
-abbrev documents_told : List PartialItem → List Fault
-documents_told gs = flat_map document_faults gs ++ repeated (flat_map doc_types gs) ++ beyond limits.Documents 16 gs
+abbrev faults_of_documents : List PartialItem → List Fault
+faults_of_documents gs = flat_map document_faults gs ++ repeats (flat_map doc_types gs) ++ beyond limits.Documents 16 gs
 
 types_test : (parts : List Part) (o : Option Store) → each document parts ≡ o →
     (is_some o && are_distinct (texts_of (flat_map doc_types (map whole parts)))) ≡ is_some (o >>= distinct_types)
@@ -111,51 +110,56 @@ few_documents parts false = and_false _
 few_documents parts true = and_true _ ∙ types_test parts (each document parts) refl
 
 clean_parts : (parts : List Part) → AllByRecursion IsRead parts →
-    is_clean (documents_told (map whole parts)) ≡ is_some ((within 0 16 parts >>= each document) >>= distinct_types)
+    is_clean (faults_of_documents (map whole parts)) ≡ is_some ((within 0 16 parts >>= each document) >>= distinct_types)
 clean_parts parts read =
     let each_faults = flat_map document_faults (map whole parts) in
-    let doubled = repeated (flat_map doc_types (map whole parts)) in
+    let doubled = repeats (flat_map doc_types (map whole parts)) in
     clean_joined (each_faults ++ doubled) (beyond limits.Documents 16 (map whole parts))
     ∙ and_same _ _ _ _
     (clean_joined each_faults doubled
-    ∙ and_same _ _ _ _ (clean_each IsRead whole document_faults document clean_document parts read) (clean_repeated (flat_map doc_types (map whole parts))))
-    (clean_passed limits.Documents 16 (map whole parts) ∙ ap (λ (n : ℕ). nat_le n 16) (length-map parts whole) ∙ sym (few_enough 16 parts))
+    ∙ and_same _ _ _ _ (clean_each IsRead whole document_faults document clean_document parts read) (clean_repeats (flat_map doc_types (map whole parts))))
+    (clean_beyond limits.Documents 16 (map whole parts) ∙ ap (λ (n : ℕ). nat_le n 16) (length-map parts whole) ∙ sym (few_enough 16 parts))
     ∙ few_documents parts (nat_le 0 (length parts) && nat_le (length parts) 16)
 
 clean_documents : (p : Part) → IsRead p → is_clean (documents_faults (whole p)) ≡ is_some (documents_of (Some p))
 clean_documents p read = go (items_in p) refl where
   go : (o : Option (List Part)) → items_in p ≡ o →
-      is_clean (if_kind (fault (checks.Field keys.Documents) (whole p) ∷ []) documents_told (option_map (map whole) o))
+      is_clean (if_kind (fault (checks.Field keys.Documents) (whole p) ∷ []) faults_of_documents (option_map (map whole) o))
       ≡ is_some (((o >>= within 0 16) >>= each document) >>= distinct_types)
   go None is = refl
   go (Some parts) is = clean_parts parts (items_read p parts read is)
 
 -- ---- the file
 
-abbrev version_asked : Asked
-version_asked = record { key = record { name = keys.Version; value = version_faults }; test = λ value. is_some (uint_in value >>= first_version); law = λ value read. clean_version value }
+abbrev version_field : FieldTest
+version_field = record { key = record { name = keys.Version; value = version_faults }; test = λ value. is_some (uint_in value >>= first_version); law = λ value read. clean_version value }
 
-abbrev documents_asked : Asked
-documents_asked = record { key = record { name = keys.Documents; value = documents_faults }; test = λ value. is_some (documents_of (Some value)); law = clean_documents }
+abbrev documents_field : FieldTest
+documents_field = record { key = record { name = keys.Documents; value = documents_faults }; test = λ value. is_some (documents_of (Some value)); law = clean_documents }
 
-abbrev filed : Part → Option Store
-filed p = ((field (key_text keys.Version) p >>= uint_in) >>= first_version) >>= λ version. documents_of (field (key_text keys.Documents) p)
+abbrev store_by_values : Part → Option Store
+store_by_values p = ((value_in keys.Version p >>= uint_in) >>= first_version) >>= λ version. documents_of (value_in keys.Documents p)
 
-some_filed : (p : Part) → is_some (filed p) ≡ all_hold p (version_asked ∷ documents_asked ∷ [])
-some_filed p =
-    some_then (λ (o : Option Part). (o >>= uint_in) >>= first_version) (field (key_text keys.Version) p) (λ version. documents_of (field (key_text keys.Documents) p)) (all_hold p (documents_asked ∷ [])) refl
-    (λ version. some_last documents_of (field (key_text keys.Documents) p) refl)
+some_store : (p : Part) → is_some (store_by_values p) ≡ all_hold p (version_field ∷ documents_field ∷ [])
+some_store p =
+    some_then (λ (o : Option Part). (o >>= uint_in) >>= first_version) (value_in keys.Version p) (λ version. documents_of (value_in keys.Documents p)) (all_hold p (documents_field ∷ [])) refl
+    (λ version. some_last documents_of (value_in keys.Documents p) refl)
 
-clean_form : (p : Part) → IsRead p → is_clean (form_faults (whole p)) ≡ is_some (filed p)
-clean_form p read = clean_map version_asked (documents_asked ∷ []) p read ∙ sym (some_filed p)
+clean_form : (p : Part) → IsRead p → is_clean (form_faults (whole p)) ≡ is_some (store_by_values p)
+clean_form p read = clean_map version_field (documents_field ∷ []) p read ∙ sym (some_store p)
 
-store_filed : (bytes : List ℕ) → store bytes ≡ (spelled (cbor bytes) >>= filed)
+store_values : (bytes : List ℕ) → store bytes ≡ (if_spelled (cbor bytes) >>= store_by_values)
 unfolding store
-store_filed bytes = refl
+store_values bytes = go (cbor bytes) where
+  go : (r : Result Part CborFault) →
+      (if_spelled r >>= λ file. (field_of keys.Version uint_in file >>= first_version) >>= λ version. ((field_of keys.Documents items_in file >>= within 0 16) >>= each document) >>= distinct_types)
+      ≡ (if_spelled r >>= store_by_values)
+  go (Err fault) = refl
+  go (Ok file) = rw (field_value keys.Version uint_in file, field_value keys.Documents items_in file) refl
 
-clean_file : (bytes : List ℕ) → BytesAre bytes → (is_clean (cbor_fault (reads bytes)) && is_clean (form_faults (front_item bytes))) ≡ is_some (spelled (cbor bytes) >>= filed)
+clean_file : (bytes : List ℕ) → BytesAre bytes → (is_clean (cbor_fault (reads bytes)) && is_clean (form_faults (front_item bytes))) ≡ is_some (if_spelled (cbor bytes) >>= store_by_values)
 clean_file bytes are = go (reads bytes) refl where
-  go : (r : Result Tree CborFault) → reads bytes ≡ r → (is_clean (cbor_fault r) && is_clean (form_faults (front_item bytes))) ≡ is_some (spelled (part_of bytes r) >>= filed)
+  go : (r : Result Tree CborFault) → reads bytes ≡ r → (is_clean (cbor_fault r) && is_clean (form_faults (front_item bytes))) ≡ is_some (if_spelled (part_of bytes r) >>= store_by_values)
   go (Err f) read = refl
   go (Ok tree) read =
       let file : Part = record { at = 0; bytes = bytes } in
@@ -165,7 +169,7 @@ clean_file bytes are = go (reads bytes) refl where
 pub store_iff_no_fault : (bytes : List ℕ) → AreBytes bytes → is_none (store_fault bytes) ≡ is_some (store bytes)
 store_iff_no_fault bytes are =
     clean_first (faults bytes) ∙ clean_joined (cbor_fault (reads bytes)) (form_faults (front_item bytes)) ∙ clean_file bytes (record { each = are })
-    ∙ sym (ap (λ (o : Option Store). is_some o) (store_filed bytes))
+    ∙ sym (ap (λ (o : Option Store). is_some o) (store_values bytes))
 
 -- a file without a fault is a store
 pub without_fault : (bytes : List ℕ) → AreBytes bytes → store_fault bytes ≡ None → is_some (store bytes) ≡ true

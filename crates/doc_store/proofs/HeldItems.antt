@@ -12,24 +12,25 @@ use Rattle.doc_store.specs.Fields.{are_distinct}
 use Rattle.doc_store.specs.Held.{is_named, is_item}
 use Rattle.doc_store.specs.HeldItem.{no_space, held_by, raws_in, is_raw}
 use Rattle.doc_store.specs.SpaceItems.{beside}
-use Rattle.doc_store.specs.Item.{Item, item}
+use Rattle.issuer_items.specs.Item.{Item}
+use Rattle.doc_store.specs.Item.{item}
 use Rattle.doc_store.specs.Parts.{value_or}
 use Rattle.doc_store.specs.Store.{within, named_item, namespace, spread, items_of}
 
-abbrev Named : Type 0
-Named = List ℕ × List ℕ
+abbrev NamedItem : Type 0
+NamedItem = List ℕ × List ℕ
 
 abbrev Space : Type 0
 Space = List ℕ × List (List ℕ)
 
 -- ---- the namespaces of a copy
 
-pub record Spaces (entries : List (Part × Part)) (items : List Named) : Type 0 where
+pub record Spaces (entries : List (Part × Part)) (items : List NamedItem) : Type 0 where
   pub read : is_some (each namespace entries) ≡ true
   pub all : items ≡ flat_map spread (unwrap_or (each namespace entries) [])
 
 -- the items of a copy are those of its namespaces
-pub items_spaces : (entries : List (Part × Part)) (items : List Named) → items_of entries ≡ Some items → Spaces entries items
+pub items_spaces : (entries : List (Part × Part)) (items : List NamedItem) → items_of entries ≡ Some items → Spaces entries items
 items_spaces entries items given = by_count (nat_le 0 (length entries) && nat_le (length entries) 16) given where
   by_within : (spaces : List Space) (b : Bool) → each namespace entries ≡ Some spaces → where_true b (flat_map spread spaces) ≡ Some items → Spaces entries items
   by_within spaces false each_is e = cc
@@ -55,7 +56,7 @@ items_spaces entries items given = by_count (nat_le 0 (length entries) && nat_le
 -- ---- one namespace and those after it
 
 abbrev pub held_all : List ℕ → List ℕ → List Space → Option (List ℕ)
-held_all ns name spaces = option_map (λ (stored : Named). stored.1) (find (is_item ns name) (flat_map spread spaces))
+held_all ns name spaces = option_map (λ (stored : NamedItem). stored.1) (find (is_item ns name) (flat_map spread spaces))
 
 map-or : {A B : Type 0} (f : A → B) (o p : Option A) → option_map f (option_or o p) ≡ option_or (option_map f o) (option_map f p)
 map-or f None p = refl
@@ -64,51 +65,51 @@ map-or f (Some x) p = refl
 pub held_all_step : (ns name : List ℕ) (space : Space) (spaces : List Space) →
     held_all ns name (space ∷ spaces) ≡ option_or (held_by ns name space) (held_all ns name spaces)
 held_all_step ns name space spaces =
-    ap (option_map (λ (stored : Named). stored.1)) (find-append (is_item ns name) (spread space) (flat_map spread spaces))
-    ∙ map-or (λ (stored : Named). stored.1) (find (is_item ns name) (spread space)) (find (is_item ns name) (flat_map spread spaces))
+    ap (option_map (λ (stored : NamedItem). stored.1)) (find-append (is_item ns name) (spread space) (flat_map spread spaces))
+    ∙ map-or (λ (stored : NamedItem). stored.1) (find (is_item ns name) (spread space)) (find (is_item ns name) (flat_map spread spaces))
 
 -- ---- the items of one namespace
 
 find-spread : (ns name own : List ℕ) (raws : List (List ℕ)) (b : Bool) → bytes_eq own ns ≡ b →
-    option_map (λ (stored : Named). stored.1) (find (is_item ns name) (map (λ raw. (own, raw)) raws)) ≡ cond b (find (is_raw name) raws) None
+    option_map (λ (stored : NamedItem). stored.1) (find (is_item ns name) (map (λ raw. (own, raw)) raws)) ≡ cond b (find (is_raw name) raws) None
 find-spread ns name own [] true e = refl
 find-spread ns name own [] false e = refl
 find-spread ns name own (raw ∷ raws) true e = rw e (step (is_named name (item raw)) (find-spread ns name own raws true e)) where
-  step : (t : Bool) → option_map (λ (stored : Named). stored.1) (find (is_item ns name) (map (λ raw. (own, raw)) raws)) ≡ find (is_raw name) raws →
-      option_map (λ (stored : Named). stored.1) (cond t (Some (own, raw)) (find (is_item ns name) (map (λ raw. (own, raw)) raws))) ≡ cond t (Some raw) (find (is_raw name) raws)
+  step : (t : Bool) → option_map (λ (stored : NamedItem). stored.1) (find (is_item ns name) (map (λ raw. (own, raw)) raws)) ≡ find (is_raw name) raws →
+      option_map (λ (stored : NamedItem). stored.1) (cond t (Some (own, raw)) (find (is_item ns name) (map (λ raw. (own, raw)) raws))) ≡ cond t (Some raw) (find (is_raw name) raws)
   step true rest = refl
   step false rest = rest
 find-spread ns name own (raw ∷ raws) false e = rw e (find-spread ns name own raws false e)
 
 -- an item is stored as the bytes of its part
-each-raw : (parts : List Part) (items : List Named) → each named_item parts ≡ Some items →
-    map (λ (named : Named). named.1) items ≡ map (λ (p : Part). p.bytes) parts
+each-raw : (parts : List Part) (items : List NamedItem) → each named_item parts ≡ Some items →
+    map (λ (named : NamedItem). named.1) items ≡ map (λ (p : Part). p.bytes) parts
 each-raw [] items given = let same : items ≡ [] = cc in rw same refl
 each-raw (p ∷ parts) items given = go (item p.bytes) (each named_item parts) (each-raw parts) given where
-  by_size : (read : Item) (b : Bool) (rest : Option (List Named)) → ((rest_items : List Named) → rest ≡ Some rest_items → map (λ (named : Named). named.1) rest_items ≡ map (λ (q : Part). q.bytes) parts) →
+  by_size : (read : Item) (b : Bool) (rest : Option (List NamedItem)) → ((rest_items : List NamedItem) → rest ≡ Some rest_items → map (λ (named : NamedItem). named.1) rest_items ≡ map (λ (q : Part). q.bytes) parts) →
       (where_true b (read.name, p.bytes) >>= λ x. rest >>= λ xs. Some (x ∷ xs)) ≡ Some items →
-      map (λ (named : Named). named.1) items ≡ map (λ (q : Part). q.bytes) (p ∷ parts)
+      map (λ (named : NamedItem). named.1) items ≡ map (λ (q : Part). q.bytes) (p ∷ parts)
   by_size read false rest known e = cc
   by_size read true None known e = cc
   by_size read true (Some rest_items) known e =
       let same : items ≡ (read.name, p.bytes) ∷ rest_items = cc in
       rw same (ap (λ raws. p.bytes ∷ raws) (known rest_items refl))
 
-  go : (o : Option Item) (rest : Option (List Named)) → ((rest_items : List Named) → rest ≡ Some rest_items → map (λ (named : Named). named.1) rest_items ≡ map (λ (q : Part). q.bytes) parts) →
+  go : (o : Option Item) (rest : Option (List NamedItem)) → ((rest_items : List NamedItem) → rest ≡ Some rest_items → map (λ (named : NamedItem). named.1) rest_items ≡ map (λ (q : Part). q.bytes) parts) →
       ((o >>= λ read. where_true (nat_le (length read.name) 128 && nat_le (length read.value) 262144) (read.name, p.bytes)) >>= λ x. rest >>= λ xs. Some (x ∷ xs)) ≡ Some items →
-      map (λ (named : Named). named.1) items ≡ map (λ (q : Part). q.bytes) (p ∷ parts)
+      map (λ (named : NamedItem). named.1) items ≡ map (λ (q : Part). q.bytes) (p ∷ parts)
   go None rest known e = cc
   go (Some read) rest known e = by_size read _ rest known e
 
 -- a namespace by its parts
-abbrev distinct : List Named → Bool
-distinct items = are_distinct (map (λ (named : Named). named.0) items)
+abbrev distinct : List NamedItem → Bool
+distinct items = are_distinct (map (λ (named : NamedItem). named.0) items)
 
-abbrev made : Bool → List ℕ → List Named → Option Space
-made test own items = where_true test (own, map (λ (named : Named). named.1) items)
+abbrev space_if : Bool → List ℕ → List NamedItem → Option Space
+space_if test own items = where_true test (own, map (λ (named : NamedItem). named.1) items)
 
 abbrev space_of : Option (List ℕ) → Option (List Part) → Option Space
-space_of own parts = own >>= λ name. (parts >>= each named_item) >>= λ items. made (distinct items) name items
+space_of own parts = own >>= λ name. (parts >>= each named_item) >>= λ items. space_if (distinct items) name items
 
 abbrev raws_of : List Part → List (List ℕ)
 raws_of parts = map (λ (p : Part). p.bytes) parts
@@ -123,8 +124,8 @@ pub record SpaceParts (key value : Part) : Type 0 where
 
 pub space_parts : (key value : Part) → is_some {T = Space} (namespace (key, value)) ≡ true → SpaceParts key value
 space_parts key value read = by_text (text_in key) (items_in value) refl refl read where
-  by_test : (own : List ℕ) (parts : List Part) (items : List Named) (d : Bool) → text_in key ≡ Some own → items_in value ≡ Some parts →
-      nat_le (length own) 128 ≡ true → each named_item parts ≡ Some items → distinct items ≡ d → is_some (made d own items) ≡ true → SpaceParts key value
+  by_test : (own : List ℕ) (parts : List Part) (items : List NamedItem) (d : Bool) → text_in key ≡ Some own → items_in value ≡ Some parts →
+      nat_le (length own) 128 ≡ true → each named_item parts ≡ Some items → distinct items ≡ d → is_some (space_if d own items) ≡ true → SpaceParts key value
   by_test own parts items false text array small each_is test e = cc
   by_test own parts items true text array small each_is test e = record {
     own = own;
@@ -134,8 +135,8 @@ space_parts key value read = by_text (text_in key) (items_in value) refl refl re
     given = rw (text, array, small, each_is, test, each-raw parts items each_is) refl;
   }
 
-  by_items : (own : List ℕ) (parts : List Part) (o : Option (List Named)) → text_in key ≡ Some own → items_in value ≡ Some parts →
-      nat_le (length own) 128 ≡ true → each named_item parts ≡ o → is_some (o >>= λ items. made (distinct items) own items) ≡ true → SpaceParts key value
+  by_items : (own : List ℕ) (parts : List Part) (o : Option (List NamedItem)) → text_in key ≡ Some own → items_in value ≡ Some parts →
+      nat_le (length own) 128 ≡ true → each named_item parts ≡ o → is_some (o >>= λ items. space_if (distinct items) own items) ≡ true → SpaceParts key value
   by_items own parts None text array small each_is e = cc
   by_items own parts (Some items) text array small each_is e = by_test own parts items (distinct items) text array small each_is refl e
 
@@ -163,9 +164,9 @@ beside-given own [] = refl
 beside-given own (p ∷ parts) = ap (λ rest. (own, p.bytes) ∷ rest) (beside-given own parts)
 
 -- a namespace that can be read, by its name and its array
-pub opened : (key value : Part) (own : List ℕ) (parts : List Part) → text_in key ≡ Some own → items_in value ≡ Some parts →
+pub beside_parts : (key value : Part) (own : List ℕ) (parts : List Part) → text_in key ≡ Some own → items_in value ≡ Some parts →
     is_some {T = Space} (namespace (key, value)) ≡ true → beside own parts ≡ spread (value_or no_space namespace (key, value))
-opened key value own parts text array read =
+beside_parts key value own parts text array read =
     let space = space_parts key value read in
     let own_same : own ≡ space.own = cc in
     let parts_same : parts ≡ space.parts = cc in

@@ -6,4 +6,4 @@ use Rattle.doc_store.specs.Faults.{Entries, doubled_at, first_fault}
 
 -- where a key stands again, by whether it stood before, where it stood again, and the entries of it that are left
 abbrev pub again_or : Bool → Option Fault → Entries → Option Fault
-again_or stood again entries = option_or again (first_fault (doubled_at (if stood then entries else drop 1 entries)))
+again_or stood repeats_after entries = option_or repeats_after (first_fault (doubled_at (if stood then entries else drop 1 entries)))

@@ -44,30 +44,30 @@ record Found (f : Fault) (fs : List Fault) : Type 0 where
 in_front : (f : Fault) (fs : List Fault) → Contains (f ∷ fs) f
 in_front f fs = (0, omega arith, refl)
 
-moved : (f g : Fault) (fs : List Fault) → g ≡ f → Found g fs → Found f fs
-moved f g fs same all = subst (λ (h : Fault). Found h fs) same all
+found-of : (f g : Fault) (fs : List Fault) → g ≡ f → Found g fs → Found f fs
+found-of f g fs same all = subst (λ (h : Fault). Found h fs) same all
 
-found : (fs : List Fault) (f : Fault) → first_fault fs ≡ Some f → Found f fs
-found [] f e = cc
-found (x ∷ xs) f e = go (first_fault xs) refl (found xs) e where
+first-found : (fs : List Fault) (f : Fault) → first_fault fs ≡ Some f → Found f fs
+first-found [] f e = cc
+first-found (x ∷ xs) f e = go (first_fault xs) refl (first-found xs) e where
   go : (o : Option Fault) → first_fault xs ≡ o → ((g : Fault) → first_fault xs ≡ Some g → Found g xs) → earlier x o ≡ Some f → Found f (x ∷ xs)
   go None none known e =
       let same : x ≡ f = cc in
-      moved f x (x ∷ xs) same (record { among = in_front x xs; least = (not_before_itself x, where_none x xs none) })
+      found-of f x (x ∷ xs) same (record { among = in_front x xs; least = (not_before_itself x, where_none x xs none) })
   go (Some g) some known e = by (is_before g x) refl e where
     by : (b : Bool) → is_before g x ≡ b → cond b (Some g) (Some x) ≡ Some f → Found f (x ∷ xs)
     by true is e =
         let same : g ≡ f = cc in
         let rest : Found g xs = known g some in
-        moved f g (x ∷ xs) same (record { among = Contains-append_right (x ∷ []) xs g rest.among; least = (not_after x g is, rest.least) })
+        found-of f g (x ∷ xs) same (record { among = Contains-append_right (x ∷ []) xs g rest.among; least = (not_after x g is, rest.least) })
     by false is e =
         let same : x ≡ f = cc in
         let rest : Found g xs = known g some in
-        moved f x (x ∷ xs) same (record { among = in_front x xs; least = (not_before_itself x, none_before x g xs is rest.least) })
+        found-of f x (x ∷ xs) same (record { among = in_front x xs; least = (not_before_itself x, none_before x g xs is rest.least) })
 
 first_is : (fs : List Fault) (f : Fault) → first_fault fs ≡ Some f → IsFirst f fs
 first_is fs f e =
-    let all = found fs f e in
+    let all = first-found fs f e in
     record { among = all.among; least = All-from_recursion (IsNotBefore f) fs all.least }
 
 -- of the faults of a file

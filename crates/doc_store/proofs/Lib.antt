@@ -13,6 +13,7 @@ pub mod KeyLaw
 pub mod KeyPass
 pub mod LeastFault
 pub mod NameSets
+pub mod PartsLie
 pub mod Placing
 pub mod Readers
 pub mod SpaceLaw

@@ -14,8 +14,8 @@ use Rattle.cbor_view.specs.PartialItem.{PartialItem}
 use Rattle.doc_store.specs.declared.first_fault.Fault.{Fault}
 use Rattle.doc_store.specs.declared.names.Names.{Names}
 use Rattle.doc_store.specs.Fields.{are_distinct}
-use Rattle.doc_store.specs.Names.{names_seen, was_seen, again_after}
-use Rattle.doc_store.specs.Faults.{again}
+use Rattle.doc_store.specs.Names.{names_seen, was_seen, repeats_left}
+use Rattle.doc_store.specs.Faults.{repeats_after}
 
 -- ---- the set
 
@@ -23,15 +23,15 @@ abbrev text_order : Bor (List ℕ) → Bor (List ℕ) → Ordering
 text_order one other = slice_cmp nat_cmp one.now other.now
 
 -- a set of texts finds what is in their list
-found_by : (name : List ℕ) (keys : List (Bor (List ℕ))) →
+set_finds : (name : List ℕ) (keys : List (Bor (List ℕ))) →
     list_any (is_at (λ (key : Bor (List ℕ)). slice_cmp nat_cmp name key.now)) keys ≡ list_any (bytes_eq name) (map (λ key. key.now) keys)
-found_by name [] = refl
-found_by name (key ∷ keys) = rw (is_eq-slice_cmp name key.now, found_by name keys) refl
+set_finds name [] = refl
+set_finds name (key ∷ keys) = rw (is_eq-slice_cmp name key.now, set_finds name keys) refl
 
 -- whether it is there, by whether it is new
 pub before_added : (set : BTreeSet (Bor (List ℕ))) (name : Bor (List ℕ)) (added : Bool) → added ≡ not (contains text_order set name) →
     not added ≡ list_any (bytes_eq name.now) (map (λ key. key.now) set.keys)
-before_added set name added given = twice (contains text_order set name) added given ∙ found_by name.now set.keys where
+before_added set name added given = twice (contains text_order set name) added given ∙ set_finds name.now set.keys where
   twice : (b a : Bool) → a ≡ not b → not a ≡ b
   twice true a e = rw e refl
   twice false a e = rw e refl
@@ -44,9 +44,9 @@ either false c = refl
 pub after_added : (old new : BTreeSet (Bor (List ℕ))) (name : Bor (List ℕ)) → Updates text_order old new name true → (other : List ℕ) →
     list_any (bytes_eq other) (map (λ key. key.now) new.keys) ≡ (bytes_eq other name.now || list_any (bytes_eq other) (map (λ key. key.now) old.keys))
 after_added old new name given other =
-    sym (found_by other new.keys)
+    sym (set_finds other new.keys)
     ∙ (given.0 (record { ref_ptr = (0, 0); now = other })
-    ∙ rw (is_eq-slice_cmp name.now other, found_by other old.keys, nat_list_eq_equiv.symm other name.now) (either (bytes_eq name.now other) (list_any (bytes_eq other) (map (λ key. key.now) old.keys))))
+    ∙ rw (is_eq-slice_cmp name.now other, set_finds other old.keys, nat_list_eq_equiv.symm other name.now) (either (bytes_eq name.now other) (list_any (bytes_eq other) (map (λ key. key.now) old.keys))))
 
 -- ---- what stands again
 
@@ -58,18 +58,18 @@ with_one : (x : List ℕ) (seen others : List (List ℕ)) → AreSame seen other
 with_one x seen others same name = ap (λ b. bytes_eq name x || b) (same name)
 
 -- what was seen counts by its names alone
-pub again_same : (xs : List (List ℕ × PartialItem)) (seen others : List (List ℕ)) → AreSame seen others → again seen xs ≡ again others xs
-again_same [] seen others same = refl
-again_same (x ∷ xs) seen others same = rw (same x.0, again_same xs (x.0 ∷ seen) (x.0 ∷ others) (with_one x.0 seen others same)) refl
+pub repeats-same : (xs : List (List ℕ × PartialItem)) (seen others : List (List ℕ)) → AreSame seen others → repeats_after seen xs ≡ repeats_after others xs
+repeats-same [] seen others same = refl
+repeats-same (x ∷ xs) seen others same = rw (same x.0, repeats-same xs (x.0 ∷ seen) (x.0 ∷ others) (with_one x.0 seen others same)) refl
 
 -- a name that is new
-pub again_next : (seen new : List (List ℕ)) (x : List ℕ × PartialItem) (xs : List (List ℕ × PartialItem)) → list_any (bytes_eq x.0) seen ≡ false →
-    ((name : List ℕ) → list_any (bytes_eq name) new ≡ (bytes_eq name x.0 || list_any (bytes_eq name) seen)) → again seen (x ∷ xs) ≡ again new xs
-again_next seen new x xs unseen given = rw unseen (again_same xs (x.0 ∷ seen) new (λ name. sym (given name)))
+pub repeats-next : (seen new : List (List ℕ)) (x : List ℕ × PartialItem) (xs : List (List ℕ × PartialItem)) → list_any (bytes_eq x.0) seen ≡ false →
+    ((name : List ℕ) → list_any (bytes_eq name) new ≡ (bytes_eq name x.0 || list_any (bytes_eq name) seen)) → repeats_after seen (x ∷ xs) ≡ repeats_after new xs
+repeats-next seen new x xs unseen given = rw unseen (repeats-same xs (x.0 ∷ seen) new (λ name. sym (given name)))
 
 pub new_name : (first : Option Fault) (old new : Names) (x : List ℕ × PartialItem) (others : List (List ℕ × PartialItem)) → is_some first ≡ false → was_seen old x.0 ≡ false →
-    ((name : List ℕ) → was_seen new name ≡ (bytes_eq name x.0 || was_seen old name)) → again_after first old (x ∷ others) ≡ again_after first new others
-new_name None old new x others none unseen given = again_next (names_seen old) (names_seen new) x others unseen given
+    ((name : List ℕ) → was_seen new name ≡ (bytes_eq name x.0 || was_seen old name)) → repeats_left first old (x ∷ others) ≡ repeats_left first new others
+new_name None old new x others none unseen given = repeats-next (names_seen old) (names_seen new) x others unseen given
 new_name (Some f) old new x others none unseen given = cc
 
 -- ---- names of which no two are equal
@@ -84,30 +84,30 @@ abbrev are_unseen : List (List ℕ) → List (List ℕ) → Bool
 are_unseen seen [] = true
 are_unseen seen (name ∷ names) = not (list_any (bytes_eq name) seen) && are_unseen seen names
 
-regrouped : (e a p q : Bool) → (not (e || a) && (p && not q)) ≡ ((not a && p) && not (e || q))
-regrouped true true p q = refl
-regrouped true false true q = refl
-regrouped true false false q = refl
-regrouped false true p q = refl
-regrouped false false p q = refl
+regroup : (e a p q : Bool) → (not (e || a) && (p && not q)) ≡ ((not a && p) && not (e || q))
+regroup true true p q = refl
+regroup true false true q = refl
+regroup true false false q = refl
+regroup false true p q = refl
+regroup false false p q = refl
 
 unseen_more : (x : List ℕ) (seen names : List (List ℕ)) → are_unseen (x ∷ seen) names ≡ (are_unseen seen names && not (list_any (bytes_eq x) names))
 unseen_more x seen [] = refl
 unseen_more x seen (name ∷ names) =
     ap (λ b. not (bytes_eq name x || list_any (bytes_eq name) seen) && b) (unseen_more x seen names)
-    ∙ (regrouped (bytes_eq name x) (list_any (bytes_eq name) seen) (are_unseen seen names) (list_any (bytes_eq x) names)
+    ∙ (regroup (bytes_eq name x) (list_any (bytes_eq name) seen) (are_unseen seen names) (list_any (bytes_eq x) names)
     ∙ ap (λ e. (not (list_any (bytes_eq name) seen) && are_unseen seen names) && not (e || list_any (bytes_eq x) names)) (nat_list_eq_equiv.symm name x))
 
-gathered : (a p q d : Bool) → (not a && ((p && not q) && d)) ≡ ((not a && p) && (not q && d))
-gathered true p q d = refl
-gathered false true q d = refl
-gathered false false q d = refl
+regroup_three : (a p q d : Bool) → (not a && ((p && not q) && d)) ≡ ((not a && p) && (not q && d))
+regroup_three true p q d = refl
+regroup_three false true q d = refl
+regroup_three false false q d = refl
 
 new_is : (seen names : List (List ℕ)) → are_new seen names ≡ (are_unseen seen names && are_distinct names)
 new_is seen [] = refl
 new_is seen (name ∷ names) =
     ap (λ b. not (list_any (bytes_eq name) seen) && b) (new_is (name ∷ seen) names ∙ ap (λ b. b && are_distinct names) (unseen_more name seen names))
-    ∙ gathered (list_any (bytes_eq name) seen) (are_unseen seen names) (list_any (bytes_eq name) names) (are_distinct names)
+    ∙ regroup_three (list_any (bytes_eq name) seen) (are_unseen seen names) (list_any (bytes_eq name) names) (are_distinct names)
 
 none_seen : (names : List (List ℕ)) → are_unseen [] names ≡ true
 none_seen [] = refl

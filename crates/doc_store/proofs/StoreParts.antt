@@ -12,20 +12,20 @@ use Rattle.doc_store.specs.Fields.{are_distinct}
 use Rattle.doc_store.specs.DocumentFields.{version_in, documents_in}
 use Rattle.doc_store.specs.Document.{no_document}
 use Rattle.doc_store.specs.Held.{is_of_type, document_found, document_place, IsAt}
-use Rattle.doc_store.specs.Item.{spelled}
+use Rattle.doc_store.specs.Item.{if_spelled}
 use Rattle.doc_store.specs.Store.{Document, Store, document, store}
 
 abbrev doc_types : Store → List (List ℕ)
 doc_types documents = map (λ (d : Document). d.doc_type) documents
 
 -- a store by the parts of its file
-abbrev filed : Option ℕ → Option Store → Option Store
-filed version documents = version >>= λ v. documents >>= λ ds. where_true (are_distinct (doc_types ds)) ds
+abbrev store_by : Option ℕ → Option Store → Option Store
+store_by version documents = version >>= λ v. documents >>= λ ds. where_true (are_distinct (doc_types ds)) ds
 
-filed-some : (version : Option ℕ) (documents : Option Store) → is_some (filed version documents) ≡ true → documents ≡ Some (unwrap_or (filed version documents) [])
-filed-some None documents e = cc
-filed-some (Some v) None e = cc
-filed-some (Some v) (Some ds) e = by_test (are_distinct (doc_types ds)) e where
+store_by-some : (version : Option ℕ) (documents : Option Store) → is_some (store_by version documents) ≡ true → documents ≡ Some (unwrap_or (store_by version documents) [])
+store_by-some None documents e = cc
+store_by-some (Some v) None e = cc
+store_by-some (Some v) (Some ds) e = by_test (are_distinct (doc_types ds)) e where
   by_test : (d : Bool) → is_some (where_true d ds) ≡ true → Some ds ≡ Some (unwrap_or (where_true d ds) [])
   by_test false e = cc
   by_test true e = refl
@@ -36,17 +36,17 @@ pub store_documents : (bytes : List ℕ) (file : Part) → cbor bytes ≡ Ok fil
 unfolding store
 store_documents bytes file read is = go (cbor bytes) read is where
   go : (o : Result Part CborFault) → o ≡ Ok file →
-      is_some (spelled o >>= λ f. filed (version_in f) (documents_in f >>= each document)) ≡ true →
-      (documents_in file >>= each document) ≡ Some (unwrap_or (spelled o >>= λ f. filed (version_in f) (documents_in f >>= each document)) [])
+      is_some (if_spelled o >>= λ f. store_by (version_in f) (documents_in f >>= each document)) ≡ true →
+      (documents_in file >>= each document) ≡ Some (unwrap_or (if_spelled o >>= λ f. store_by (version_in f) (documents_in f >>= each document)) [])
   go (Err fault) read e = cc
   go (Ok f) read e =
       let same : f ≡ file = cc in
-      ap (λ (p : Part). documents_in p >>= each document) (sym same) ∙ filed-some (version_in f) (documents_in f >>= each document) e
+      ap (λ (p : Part). documents_in p >>= each document) (sym same) ∙ store_by-some (version_in f) (documents_in f >>= each document) e
 
 pub store_spelled : (bytes : List ℕ) (fault : CborFault) → cbor bytes ≡ Err fault → is_some (store bytes) ≡ true → ⊥
 unfolding store
 store_spelled bytes fault read is = go (cbor bytes) read is where
-  go : (o : Result Part CborFault) → o ≡ Err fault → is_some (spelled o >>= λ f. filed (version_in f) (documents_in f >>= each document)) ≡ true → ⊥
+  go : (o : Result Part CborFault) → o ≡ Err fault → is_some (if_spelled o >>= λ f. store_by (version_in f) (documents_in f >>= each document)) ≡ true → ⊥
   go (Err f) read e = cc
   go (Ok f) read e = cc
 

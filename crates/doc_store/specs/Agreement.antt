@@ -1,27 +1,28 @@
 -- Stores that agree: they differ at most in what the items at other places than the given ones say.
 use Rattle.std.specs.Prelude.{◌≡◌, ℕ, List, map, Bool, Option, Some, All, filter_map, is_some, option_map}
-use Rattle.doc_store.specs.Item.{Item, item}
+use Rattle.issuer_items.specs.Item.{Item}
+use Rattle.doc_store.specs.Item.{item}
 use Rattle.doc_store.specs.Store.{Copy, Document, Store, store}
 use Rattle.doc_store.specs.Held.{Place, item_at, place_of}
 
 -- The names of a copy: of each item its namespace, its name and its digest identifier.
-pub record Named : Type 0 where
+pub record ItemName : Type 0 where
   pub ns : List ℕ
   pub name : List ℕ
   pub digest_id : ℕ
 
-abbrev pub named : List ℕ × List ℕ → Option Named
-named stored = option_map (λ (read : Item). record { ns = stored.0; name = read.name; digest_id = read.digest_id }) (item stored.1)
+abbrev pub name_of_item : List ℕ × List ℕ → Option ItemName
+name_of_item stored = option_map (λ (read : Item). record { ns = stored.0; name = read.name; digest_id = read.digest_id }) (item stored.1)
 
-abbrev pub names : Copy → List Named
-names copy = filter_map named copy.items
+abbrev pub names : Copy → List ItemName
+names copy = filter_map name_of_item copy.items
 
 -- A copy and a document, without what their items say beside these names.
 pub record CopyOutline : Type 0 where
   pub key : ℕ
   pub used : Bool
   pub issuer_auth : List ℕ
-  pub names : List Named
+  pub names : List ItemName
 
 pub record DocumentOutline : Type 0 where
   pub doc_type : List ℕ

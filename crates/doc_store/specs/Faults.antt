@@ -14,10 +14,10 @@ use Rattle.mdoc_outside.specs.declared.key_name.KeyName.TheVariants as keys
 use Rattle.mdoc_outside.specs.declared.limit_name.LimitName.{LimitName}
 use Rattle.mdoc_outside.specs.declared.limit_name.LimitName.TheVariants as limits
 use Rattle.doc_store.specs.declared.first_fault.Fault.{Fault}
-use Rattle.doc_store.specs.Item.{Item, item}
-use Rattle.doc_store.specs.ItemFaults.{item_fault}
-use Rattle.doc_store.specs.declared.item_fault.ItemFault.{ItemFault}
-use Rattle.doc_store.specs.declared.item_fault.ItemFault.TheVariants as items
+use Rattle.issuer_items.specs.Item.{Item, item as issuer_item}
+use Rattle.doc_store.specs.Item.{item}
+use Rattle.issuer_items.specs.declared.item_fault.ItemFault.{ItemFault}
+use Rattle.issuer_items.specs.declared.item_fault.ItemFault.TheVariants as items
 use Rattle.doc_store.specs.declared.store_check.StoreCheck.{StoreCheck}
 use Rattle.doc_store.specs.declared.store_check.StoreCheck.TheVariants as checks
 
@@ -75,12 +75,12 @@ abbrev pub name_limit : PartialItem → List ℕ → List Fault
 name_limit g name = unless (nat_le (length name) 128) (fault (checks.Limit limits.Name (length name)) g)
 
 -- what stands there a second time: the first text that is equal to one before it
-abbrev pub again : List (List ℕ) → List (List ℕ × PartialItem) → List Fault
-again seen [] = []
-again seen (x ∷ xs) = if list_any (bytes_eq x.0) seen then fault checks.Doubled x.1 ∷ [] else again (x.0 ∷ seen) xs
+abbrev pub repeats_after : List (List ℕ) → List (List ℕ × PartialItem) → List Fault
+repeats_after seen [] = []
+repeats_after seen (x ∷ xs) = if list_any (bytes_eq x.0) seen then fault checks.Doubled x.1 ∷ [] else repeats_after (x.0 ∷ seen) xs
 
-abbrev pub repeated : List (List ℕ × PartialItem) → List Fault
-repeated xs = again [] xs
+abbrev pub repeats : List (List ℕ × PartialItem) → List Fault
+repeats xs = repeats_after [] xs
 
 -- a text beside its item, where it is whole
 abbrev pub with_text : PartialItem → Option (List ℕ × PartialItem)
@@ -136,14 +136,10 @@ map_faults key others g = of_kind (checks.Field key.name) partial_pairs (λ entr
 abbrev pub value_limit : PartialItem → ℕ → List Fault
 value_limit g bytes = unless (nat_le bytes 262144) (fault (checks.Limit limits.Value bytes) g)
 
-abbrev pub item_limits : PartialItem → Option Item → List Fault
-item_limits g None = []
-item_limits g (Some read) =
-    name_limit g read.name ++ value_limit g (length read.value)
-
-abbrev pub whole_item : PartialItem → Part → Option ItemFault → List Fault
-whole_item g part None = item_limits g (item part.bytes)
-whole_item g part (Some f) = fault (checks.Item f) g ∷ []
+-- where it is whole: the first check of an issuer-signed item that fails, else its limits
+abbrev pub whole_item : PartialItem → Result Item ItemFault → List Fault
+whole_item g (Ok read) = name_limit g read.name ++ value_limit g (length read.value)
+whole_item g (Err f) = fault (checks.Item f) g ∷ []
 
 -- where it isn't whole, a string that is broken under the tag is of no other kind
 abbrev pub under_tag : PartialItem → ℕ × PartialItem → List Fault
@@ -153,7 +149,7 @@ abbrev pub cut_item : PartialItem → List Fault
 cut_item g = if_kind (other_kind (checks.Item items.NotTagged) g) (under_tag g) (partial_tag g)
 
 abbrev pub item_faults : PartialItem → List Fault
-item_faults g = if_kind (cut_item g) (λ part. whole_item g part (item_fault part)) (whole_in g)
+item_faults g = if_kind (cut_item g) (λ (part : Part). whole_item g (issuer_item part.bytes)) (whole_in g)
 
 -- its name, where it is an item
 abbrev pub item_name : PartialItem → Option (List ℕ × PartialItem)
@@ -161,15 +157,15 @@ item_name g = option_map (λ (read : Item). (read.name, g)) (option_and_then (λ
 
 -- ---- the namespaces of a copy
 
-abbrev pub listed : Option (List PartialItem) → List PartialItem
-listed None = []
-listed (Some gs) = gs
+abbrev pub items_or_none : Option (List PartialItem) → List PartialItem
+items_or_none None = []
+items_or_none (Some gs) = gs
 
 abbrev pub space_items : PartialItem × Option PartialItem → List PartialItem
-space_items entry = listed (option_and_then partial_items entry.1)
+space_items entry = items_or_none (option_and_then partial_items entry.1)
 
 abbrev pub items_faults : List PartialItem → List Fault
-items_faults gs = flat_map item_faults gs ++ repeated (filter_map item_name gs)
+items_faults gs = flat_map item_faults gs ++ repeats (filter_map item_name gs)
 
 abbrev pub space_value : Option PartialItem → List Fault
 space_value None = []
@@ -186,7 +182,7 @@ keys_in entries = map (λ (entry : PartialItem × Option PartialItem). entry.0) 
 
 abbrev pub entries_faults : Entries → List Fault
 entries_faults entries =
-    flat_map space_faults entries ++ repeated (filter_map with_text (keys_in entries))
+    flat_map space_faults entries ++ repeats (filter_map with_text (keys_in entries))
     ++ beyond limits.Namespaces 16 (keys_in entries) ++ beyond limits.Items 512 (flat_map space_items entries)
 
 abbrev pub spaces_faults : PartialItem → List Fault
@@ -241,7 +237,7 @@ abbrev pub version_faults : PartialItem → List Fault
 version_faults g = of_kind (checks.Field keys.Version) uint_if_whole (λ n. unless (n == 1) (fault checks.Version g)) g
 
 abbrev pub document_list_faults : List PartialItem → List Fault
-document_list_faults gs = flat_map document_faults gs ++ repeated (flat_map doc_types gs) ++ beyond limits.Documents 16 gs
+document_list_faults gs = flat_map document_faults gs ++ repeats (flat_map doc_types gs) ++ beyond limits.Documents 16 gs
 
 abbrev pub documents_faults : PartialItem → List Fault
 documents_faults g = of_kind (checks.Field keys.Documents) partial_items document_list_faults g

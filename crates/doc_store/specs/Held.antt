@@ -2,7 +2,8 @@
 use Rattle.std.specs.Prelude.{◌≡◌, ℕ, List, Bool, false, not, ◌&&◌, Option, Some, None, unwrap_or, slice_get, position, find, option_map}
 use Rattle.std.specs.Str.{bytes_eq}
 use Rattle.mdoc_outside.specs.OptionSteps.{◌>>=◌}
-use Rattle.doc_store.specs.Item.{Item, item}
+use Rattle.issuer_items.specs.Item.{Item}
+use Rattle.doc_store.specs.Item.{item}
 use Rattle.doc_store.specs.Store.{Copy, Document, Store}
 
 -- whether an item has that name

@@ -1,35 +1,19 @@
--- The issuer-signed item (ISO/IEC 18013-5, 8.3.2.1.2.2 and 9.1.2.4): what IssuerSignedItemBytes say.
-use Rattle.std.specs.Prelude.{ℕ, List, Option, Some, None, Result, Ok, Err, codes}
+-- The issuer-signed item that a stored item is (ISO/IEC 18013-5, 8.3.2.1.2.2).
+use Rattle.std.specs.Prelude.{ℕ, List, Option, Some, None, Result, Ok, Err}
 use Rattle.cbor_view.specs.declared.cbor_fault.CborFault.{CborFault}
-use Rattle.cbor_view.specs.Parts.{Part, cbor, tagged, uint_in, bytes_in, text_in}
-use Rattle.mdoc_outside.specs.OptionSteps.{◌>>=◌}
-use Rattle.doc_store.specs.Fields.{field}
-
--- A digest identifier, a salt, an element's name, and the bytes of its value.
-pub record Item : Type 0 where
-  pub digest_id : ℕ
-  pub random : List ℕ
-  pub name : List ℕ
-  pub value : List ℕ
+use Rattle.cbor_view.specs.Parts.{Part}
+use Rattle.issuer_items.specs.Item as items
+use Rattle.issuer_items.specs.declared.item_fault.ItemFault.{ItemFault}
 
 -- an item of CBOR, where the bytes spell one
-abbrev pub spelled : Result Part CborFault → Option Part
-spelled (Ok part) = Some part
-spelled (Err fault) = None
+abbrev pub if_spelled : Result Part CborFault → Option Part
+if_spelled (Ok part) = Some part
+if_spelled (Err fault) = None
 
--- the map IssuerSignedItem; each of its four keys stands there once, and others are ignored
-abbrev pub fields_of : Part → Option Item
-fields_of map = do
-  digest_id ← field (codes "digestID") map >>= uint_in
-  random ← field (codes "random") map >>= bytes_in
-  name ← field (codes "elementIdentifier") map >>= text_in
-  value ← field (codes "elementValue") map
-  Some (record { digest_id = digest_id; random = random; name = name; value = value.bytes })
+abbrev pub if_item : Result items.Item ItemFault → Option items.Item
+if_item (Ok read) = Some read
+if_item (Err fault) = None
 
--- tag 24 over the bytes of that map
-unfoldable pub item : List ℕ → Option Item
-item raw = do
-  whole ← spelled (cbor raw)
-  inside ← tagged 24 whole >>= bytes_in
-  map ← spelled (cbor inside)
-  fields_of map
+-- the issuer-signed item, where the bytes spell one
+unfoldable pub item : List ℕ → Option items.Item
+item raw = if_item (items.item raw)

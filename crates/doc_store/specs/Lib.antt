@@ -11,10 +11,9 @@ pub mod Held
 pub mod HeldItem
 pub mod SpaceItems
 pub mod Item
-pub mod ItemFaults
-pub mod ItemView
 pub mod Names
 pub mod Parts
+pub mod PartsLie
 pub mod ItemOrRest
 pub mod Refusals
 pub mod Store

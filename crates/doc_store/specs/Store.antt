@@ -1,10 +1,12 @@
 -- The store file: the documents of a holder, each with the copies that an issuer made of it.
-use Rattle.std.specs.Prelude.{ℕ, ◌==◌, ◌^◌, nat_le, nat_lt, List, length, map, Bool, true, false, ◌&&◌, Option, Some, None, codes, if◌then◌else◌}
+use Rattle.std.specs.Prelude.{ℕ, ◌==◌, ◌^◌, nat_le, nat_lt, List, length, map, Bool, true, false, ◌&&◌, Option, Some, None, if◌then◌else◌}
 use Rattle.std.specs.List.{flat_map}
 use Rattle.cbor_view.specs.Parts.{Part, cbor, uint_in, text_in, boolean_in, items_in, pairs_in}
+use Rattle.cbor_maps.specs.Reading.{any_in}
+use Rattle.mdoc_outside.specs.declared.key_name.KeyName.TheVariants as keys
 use Rattle.mdoc_outside.specs.OptionSteps.{◌>>=◌, where_true, each}
-use Rattle.doc_store.specs.Fields.{field, are_distinct}
-use Rattle.doc_store.specs.Item.{item, spelled}
+use Rattle.doc_store.specs.Fields.{field_of, are_distinct}
+use Rattle.doc_store.specs.Item.{item, if_spelled}
 
 -- A copy: the number of its device key, whether it was used, the issuer's signature as stored, and its items as stored, each with its namespace.
 pub record Copy : Type 0 where
@@ -56,12 +58,12 @@ items_of entries = do
 
 abbrev pub copy : Part → Option Copy
 copy part = do
-  key ← field (codes "key") part >>= uint_in
+  key ← field_of keys.Key uint_in part
   small ← where_true (nat_lt key (2 ^ 32)) key
-  used ← field (codes "used") part >>= boolean_in
-  issuer_auth ← field (codes "issuerAuth") part
+  used ← field_of keys.Used boolean_in part
+  issuer_auth ← field_of keys.IssuerAuth any_in part
   parts ← items_in issuer_auth >>= within 4 4
-  spaces ← field (codes "nameSpaces") part >>= pairs_in
+  spaces ← field_of keys.NameSpaces pairs_in part
   items ← items_of spaces
   Some (record { key = small; used = used; issuer_auth = issuer_auth.bytes; items = items })
 
@@ -71,15 +73,15 @@ is_mac auth = if auth == 0 then Some false else if auth == 1 then Some true else
 
 abbrev pub document : Part → Option Document
 document part = do
-  doc_type ← field (codes "docType") part >>= name_in
-  uses_mac ← field (codes "auth") part >>= uint_in >>= is_mac
-  copies ← field (codes "copies") part >>= items_in >>= within 1 64 >>= each copy
+  doc_type ← field_of keys.DocType name_in part
+  uses_mac ← field_of keys.Auth uint_in part >>= is_mac
+  copies ← field_of keys.Copies items_in part >>= within 1 64 >>= each copy
   Some (record { doc_type = doc_type; uses_mac = uses_mac; copies = copies })
 
 -- The store that a file spells: version 1, and at most 16 documents, no two of one type.
 unfoldable pub store : List ℕ → Option Store
 store bytes = do
-  file ← spelled (cbor bytes)
-  version ← field (codes "version") file >>= uint_in >>= λ n. where_true (n == 1) n
-  documents ← field (codes "documents") file >>= items_in >>= within 0 16 >>= each document
+  file ← if_spelled (cbor bytes)
+  version ← field_of keys.Version uint_in file >>= λ n. where_true (n == 1) n
+  documents ← field_of keys.Documents items_in file >>= within 0 16 >>= each document
   where_true (are_distinct (map (λ (d : Document). d.doc_type) documents)) documents

@@ -1,5 +1,6 @@
 -- What contracts see of a store that was read.
 use Rattle.std.specs.Prelude.{◌≡◌, ℕ, List, [], Some, None, Result, Ok, Err, unwrap_or}
+use Rattle.cbor_view.specs.Parts.{Part}
 use Rattle.doc_store.specs.declared.store.Store as read
 use Rattle.doc_store.specs.declared.store_fault.StoreFault.{StoreFault}
 use Rattle.doc_store.specs.declared.store_file.StoreFile.{StoreFile}
@@ -10,6 +11,10 @@ use Rattle.doc_store.specs.Store.{Store, store}
 -- the documents that its bytes spell
 abbrev pub documents_in : read.Store → Store
 documents_in s = unwrap_or (store s.bytes.now) []
+
+-- the file, as one part
+abbrev pub whole_file : read.Store → Part
+whole_file s = record { at = 0; bytes = s.bytes.now }
 
 -- What a reading answers: the store that the bytes spell, which have no fault, else their first fault.
 abbrev pub ReadsStore : Result read.Store StoreFault → List ℕ → Type 0

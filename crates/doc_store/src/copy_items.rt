@@ -47,9 +47,9 @@ impl<'a> Iterator for CopyItems<'a> {
             }
             match spaces.next() {
                 Some((name, list)) => {
-                    let (own, opened) = open_space(&name, &list);
+                    let (own, inside) = open_space(&name, &list);
                     ns = own;
-                    items = Some(opened);
+                    items = Some(inside);
                 }
                 None => {
                     let items = None;
@@ -72,7 +72,7 @@ fn first_of<'a>(items: Option<Items<'a>>) -> Option<(View<'a>, Items<'a>)>
 }
 
 /// The name of a namespace, and its items.
-#[tactic(auto, using(crate::proofs::HeldItems::opened))]
+#[tactic(auto, using(crate::proofs::HeldItems::beside_parts))]
 fn open_space<'a>(name: &View<'a>, list: &View<'a>) -> (&'a str, Items<'a>)
     requires { is_some (namespace (part name.now, part list.now)) ≡ true }
     ensures { beside result.0.now (left result.1)

@@ -2,12 +2,14 @@
 
 ghost use Rattle.std.specs.Prelude.{◌≡◌, ◌<◌, ◌≤◌, true, Some, is_some, length, slice_get};
 ghost use Rattle.cbor_view.specs.Items.{left};
+ghost use Rattle.cbor_view.specs.Parts.{AllLieIn, LiesIn};
 ghost use Rattle.cbor_view.specs.View.{part};
+ghost use Rattle.cbor_maps.specs.Contents.{IsPart};
 ghost use Rattle.mdoc_outside.specs.OptionSteps.{each};
 ghost use Rattle.doc_store.specs.Held.{chosen, is_unused};
 ghost use Rattle.doc_store.specs.Parts.{value_or};
 ghost use Rattle.doc_store.specs.Store.{copy, document};
-ghost use Rattle.doc_store.specs.StoredCopy.{no_copy, copy_of};
+ghost use Rattle.doc_store.specs.StoredCopy.{no_copy, copy_of, copy_part};
 
 use crate::document_fields::{read_copies, read_doc_type, read_uses_mac};
 use crate::listing::{count_of, item_at};
@@ -22,11 +24,12 @@ pub struct Document<'a> {
 }
 
 impl<'a> Document<'a> {
-    ghost use Rattle.doc_store.specs.Document.{document_of};
+    ghost use Rattle.doc_store.specs.Document.{document_of, document_part};
 
     /// The document type (ISO/IEC 18013-5, 8.3.2.1.2.1).
     pub fn doc_type(&self) -> &'a str
-        ensures { result.now ≡ (document_of self.now).doc_type }
+        ensures exact { result.now ≡ (document_of self.now).doc_type }
+        ensures lies { IsPart (document_part self.now).bytes result.now }
     {
         match read_doc_type(&self.stored) {
             Some(doc_type) => doc_type,
@@ -54,7 +57,8 @@ impl<'a> Document<'a> {
     /// The copy at a place, in the order of the store.
     pub fn copy(&self, n: usize) -> StoredCopy<'a>
         requires { n < length (document_of self.now).copies }
-        ensures { slice_get (document_of self.now).copies n ≡ Some (copy_of result) }
+        ensures exact { slice_get (document_of self.now).copies n ≡ Some (copy_of result) }
+        ensures lies { LiesIn (document_part self.now) (copy_part result) }
     {
         match item_at(self.stored_copies(), n) {
             Some(stored) => StoredCopy { stored },
@@ -83,6 +87,7 @@ impl<'a> Document<'a> {
         ensures few { length (left result) ≤ 64 }
         ensures some { 0 < length (left result) }
         ensures count { length (document_of self.now).copies ≡ length (left result) }
+        ensures lie { AllLieIn (document_part self.now) (left result) }
     {
         match read_copies(&self.stored) {
             Some(copies) => copies,

@@ -4,7 +4,7 @@ ghost use Rattle.std.specs.Prelude.{◌++◌, flat_map};
 ghost use Rattle.cbor_view.specs.PartialView.{partial_item};
 ghost use Rattle.cbor_view.specs.PartialItems.{partial_items_left};
 ghost use Rattle.mdoc_outside.specs.declared.key_name.KeyName.TheVariants as keys;
-ghost use Rattle.doc_store.specs.Faults.{doc_types, document_faults, document_list_faults, documents_faults, repeated};
+ghost use Rattle.doc_store.specs.Faults.{doc_types, document_faults, document_list_faults, documents_faults, repeats};
 ghost use Rattle.doc_store.specs.Found.{Finds};
 
 use crate::StoreCheck;
@@ -14,7 +14,7 @@ use crate::form_key::{FormKey, key_fault};
 use crate::kind_faults::other_kind;
 use crate::limit_faults::items_beyond;
 use crate::limits::MOST_DOCUMENTS;
-use crate::repeated::{Repeated, take_types};
+use crate::repeats::{Repeats, take_types};
 use crate::simple_keys::{Auth, DocType};
 use cbor_view::{PartialItems, PartialView};
 use mdoc_outside::{KeyName, LimitName, Memory};
@@ -38,9 +38,9 @@ fn document_fault(alloc: Global, document: &PartialView<'_>) -> Result<Option<Fa
 #[tactic(auto, using(crate::proofs::FirstFaults::first_joined, crate::proofs::FirstFaults::one_more, crate::proofs::FirstFaults::sooner_none))]
 fn of_documents(alloc: Global, documents: PartialItems<'_>) -> Result<Option<Fault>, Memory>
     ensures { Finds result (flat_map document_faults (partial_items_left documents.entry)
-        ++ repeated (flat_map doc_types (partial_items_left documents.entry))) }
+        ++ repeats (flat_map doc_types (partial_items_left documents.entry))) }
 {
-    let mut types = Repeated::new(alloc);
+    let mut types = Repeats::new(alloc);
     let mut found = None;
     for document in documents {
         found = sooner(found, document_fault(alloc, &document)?);

@@ -8,8 +8,8 @@ ghost use Rattle.doc_store.specs.HeldItem.{is_raw, raws_in, no_space, held_by};
 ghost use Rattle.doc_store.specs.Parts.{value_or};
 ghost use Rattle.doc_store.specs.Store.{namespace};
 
-use crate::item::Item;
 use cbor_view::View;
+use issuer_items::Item;
 
 /// The item of that namespace and name in a namespace of a copy, as it is stored.
 #[tactic(auto, using(crate::proofs::HeldItems::held_here))]
@@ -51,11 +51,12 @@ fn find_named<'a>(list: &View<'a>, name: &str) -> Option<&'a [u8]>
     None
 }
 
+#[tactic(auto, unfolding(crate::specs::Item::item))]
 fn is_named(stored: &View<'_>, name: &str) -> bool
     ensures { result ≡ is_raw name.now (part stored.now).bytes }
 {
-    match Item::read(stored) {
-        Ok(item) => item.name == name,
+    match Item::read(stored.raw()) {
+        Ok(item) => item.name() == name,
         Err(_) => false,
     }
 }

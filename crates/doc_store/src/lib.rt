@@ -2,9 +2,9 @@
 //! as they are stored.
 //!
 //! The one contract: a file is read exactly where it spells a store within the limits, and what is
-//! read of it are the parts that its definition gives; else it is refused by its first fault in
-//! byte order. One walk finds that fault; where there is none, the file is a store. That the parts lie in the stored bytes is said by their types and lifetimes, and by
-//! no clause.
+//! read of it are the parts that its definition gives, each of which stands in the file's bytes;
+//! else it is refused by its first fault in byte order. One walk finds that fault; where there is
+//! none, the file is a store.
 #![tactic(auto)]
 
 mod copy_faults;
@@ -13,13 +13,10 @@ mod copy_items;
 mod document;
 mod document_faults;
 mod document_fields;
-mod fields;
 mod first_fault;
 mod form_faults;
 mod form_key;
 mod held_item;
-mod item;
-mod item_fault;
 mod kind_faults;
 mod laws;
 mod limit_faults;
@@ -28,7 +25,7 @@ mod listing;
 mod names;
 mod namespace_faults;
 mod parts;
-mod repeated;
+mod repeats;
 mod sharing;
 mod simple_keys;
 mod store;
@@ -41,7 +38,7 @@ mod stored_item;
 pub use copy_items::CopyItems;
 pub use document::Document;
 pub use first_fault::Fault;
-pub use item_fault::ItemFault;
+pub use issuer_items::ItemFault;
 pub use laws::{
     EMPTY_STORE, empty_store, first_of_all, same_places, same_presence, store_iff_no_fault,
 };

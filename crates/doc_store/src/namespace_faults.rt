@@ -6,7 +6,7 @@ ghost use Rattle.cbor_view.specs.PartialView.{partial_item};
 ghost use Rattle.cbor_view.specs.PartialItems.{partial_items_left};
 ghost use Rattle.cbor_view.specs.PartialPairs.{partial_pairs_left};
 ghost use Rattle.mdoc_outside.specs.declared.key_name.KeyName.TheVariants as keys;
-ghost use Rattle.doc_store.specs.Faults.{entries_faults, first_fault, items_faults, keys_in, listed, name_faults, repeated, space_faults, space_items, space_value, spaces_faults, with_text};
+ghost use Rattle.doc_store.specs.Faults.{entries_faults, first_fault, items_faults, keys_in, items_or_none, name_faults, repeats, space_faults, space_items, space_value, spaces_faults, with_text};
 ghost use Rattle.doc_store.specs.Found.{Finds};
 ghost use Rattle.doc_store.specs.ItemOrRest.{ok_map, item_or_rest};
 
@@ -16,8 +16,8 @@ use crate::form_key::FormKey;
 use crate::kind_faults::{name_limit, other_kind, text};
 use crate::limit_faults::{beyond_at, keys_beyond};
 use crate::limits::{MOST_ITEMS, MOST_NAMESPACES};
-use crate::repeated::Repeated;
-use crate::stored_item::judged_item;
+use crate::repeats::Repeats;
+use crate::stored_item::fault_and_name;
 use cbor_view::{PartialItems, PartialPairs, PartialView};
 use mdoc_outside::{KeyName, LimitName, Memory};
 use std::alloc::Global;
@@ -48,10 +48,10 @@ impl FormKey for NameSpaces {
 fn items_fault(alloc: Global, items: PartialItems<'_>) -> Result<Option<Fault>, Memory>
     ensures { Finds result (items_faults (partial_items_left items.entry)) }
 {
-    let mut names = Repeated::new(alloc);
+    let mut names = Repeats::new(alloc);
     let mut found = None;
     for item in items {
-        let (own, name) = judged_item(&item);
+        let (own, name) = fault_and_name(&item);
         found = sooner(found, own);
         if let Some(name) = name {
             names.take(name, &item)?;
@@ -100,9 +100,9 @@ fn space_fault(
 #[tactic(auto, using(crate::proofs::FirstFaults::first_joined, crate::proofs::FirstFaults::one_more, crate::proofs::FirstFaults::sooner_none))]
 fn of_spaces(alloc: Global, entries: PartialPairs<'_>) -> Result<Option<Fault>, Memory>
     ensures { Finds result (flat_map space_faults (partial_pairs_left entries.entry)
-        ++ repeated (filter_map with_text (keys_in (partial_pairs_left entries.entry)))) }
+        ++ repeats (filter_map with_text (keys_in (partial_pairs_left entries.entry)))) }
 {
-    let mut names = Repeated::new(alloc);
+    let mut names = Repeats::new(alloc);
     let mut found = None;
     for (key, value) in entries {
         found = sooner(found, space_fault(alloc, &key, value)?);
@@ -133,7 +133,7 @@ fn in_value_or_beyond<'a>(
     place: usize,
 ) -> Result<PartialView<'a>, usize>
     ensures { ok_map partial_item result
-        ≡ item_or_rest (listed (option_and_then partial_items (option_map partial_item value.entry))) place }
+        ≡ item_or_rest (items_or_none (option_and_then partial_items (option_map partial_item value.entry))) place }
 {
     let Some(value) = value else {
         return Err(place);
@@ -145,7 +145,7 @@ fn in_value_or_beyond<'a>(
 }
 
 /// The item at a place among those of all namespaces, if there is one.
-#[tactic(auto, using(crate::proofs::Placing::get_placed))]
+#[tactic(auto, using(crate::proofs::Placing::get_in_append))]
 fn item_of_all<'a>(entries: PartialPairs<'a>, place: usize) -> Option<PartialView<'a>>
     ensures { option_map partial_item result
         ≡ slice_get (flat_map space_items (partial_pairs_left entries.entry)) place }

@@ -3,8 +3,7 @@
 ghost use Rattle.std.specs.Prelude.{◌≡◌, ◌&&◌, nat_le, length, option_map};
 ghost use Rattle.cbor_view.specs.Items.{left};
 ghost use Rattle.cbor_view.specs.View.{part};
-ghost use Rattle.doc_store.specs.Parts.{items_within};
-ghost use Rattle.doc_store.specs.Store.{name_in};
+ghost use Rattle.doc_store.specs.Store.{name_in, within};
 
 use crate::limits::MOST_NAME_BYTES;
 use cbor_view::{Items, View};
@@ -20,11 +19,10 @@ pub(crate) fn read_name<'a>(value: &View<'a>) -> Option<&'a str>
     Some(name)
 }
 
-/// The items of an array that has so many at least and at most.
-pub(crate) fn items_within<'a>(list: &View<'a>, least: usize, most: usize) -> Option<Items<'a>>
-    ensures { option_map left result ≡ items_within least most (part list.now) }
+/// The items, where they are so many at least and at most.
+pub(crate) fn items_within<'a>(items: Items<'a>, least: usize, most: usize) -> Option<Items<'a>>
+    ensures { option_map left result ≡ within least most (left items.entry) }
 {
-    let items = list.items()?;
     if is_count_within(items, least, most) {
         Some(items)
     } else {

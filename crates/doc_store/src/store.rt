@@ -1,9 +1,10 @@
 //! The store of a holder.
 
-ghost use Rattle.std.specs.Prelude.{◌≡◌, ◌<◌, ◌≤◌, true, Some, None, MatchOption, is_some, length, option_map, slice_get};
+ghost use Rattle.std.specs.Prelude.{◌≡◌, ◌<◌, ◌≤◌, true, Some, None, IfOk, IfSome, MatchOption, is_some, length, option_map, slice_get};
 ghost use Rattle.cbor_view.specs.Items.{left};
+ghost use Rattle.cbor_view.specs.Parts.{AllLieIn, LiesIn};
 ghost use Rattle.mdoc_outside.specs.OptionSteps.{each};
-ghost use Rattle.doc_store.specs.Document.{document_of};
+ghost use Rattle.doc_store.specs.Document.{document_of, document_part};
 ghost use Rattle.doc_store.specs.Held.{IsAt, document_found, document_place};
 ghost use Rattle.doc_store.specs.Store.{document, store};
 
@@ -24,11 +25,12 @@ pub struct Store<'a> {
 }
 
 impl<'a> Store<'a> {
-    ghost use Rattle.doc_store.specs.StoreView.{documents_in, ReadsStore};
+    ghost use Rattle.doc_store.specs.StoreView.{documents_in, whole_file, ReadsStore};
 
     /// The store that a file spells, else the file's first fault in byte order.
     pub fn read(alloc: Global, bytes: &'a [u8]) -> Result<Store<'a>, StoreFault>
-        ensures { ReadsStore result bytes.now }
+        ensures read { ReadsStore result bytes.now }
+        ensures whole { IfOk result (λ store. (whole_file store).bytes ≡ bytes.now) }
     {
         match first_fault_of(alloc, bytes)? {
             None => Ok(Store { bytes }),
@@ -46,7 +48,8 @@ impl<'a> Store<'a> {
     /// The document at a place, in the order of the file.
     pub fn document(&self, n: usize) -> Document<'a>
         requires { n < length (documents_in self.now) }
-        ensures { slice_get (documents_in self.now) n ≡ Some (document_of result) }
+        ensures exact { slice_get (documents_in self.now) n ≡ Some (document_of result) }
+        ensures lies { LiesIn (whole_file self.now) (document_part result) }
     {
         match item_at(self.stored_documents(), n) {
             Some(stored) => Document { stored },
@@ -61,6 +64,7 @@ impl<'a> Store<'a> {
         ensures place { MatchOption result
             (document_place (documents_in self.now) doc_type.now ≡ None)
             (λ d. IsAt (documents_in self.now) doc_type.now (document_of d)) }
+        ensures lies { IfSome result (λ d. LiesIn (whole_file self.now) (document_part d)) }
     {
         for stored in self.stored_documents() {
             let document = Document { stored };
@@ -75,6 +79,7 @@ impl<'a> Store<'a> {
         ensures given { each document (left result) ≡ Some (documents_in self.now) }
         ensures few { length (left result) ≤ 64 }
         ensures count { length (documents_in self.now) ≡ length (left result) }
+        ensures lie { AllLieIn (whole_file self.now) (left result) }
     {
         match View::read(self.bytes) {
             Ok(file) => match read_documents(&file) {

@@ -17,7 +17,7 @@ pub struct StoreFile {
 }
 
 impl StoreFile {
-    ghost use Rattle.doc_store.specs.StoreView.{documents_in, documents_of_file, ReadsStoreFile};
+    ghost use Rattle.doc_store.specs.StoreView.{bytes_of_file, documents_in, documents_of_file, whole_file, ReadsStoreFile};
 
     /// The file, where its bytes spell a store, else its first fault in byte order.
     pub fn read(alloc: Global, bytes: Octets) -> Result<StoreFile, StoreFault>
@@ -31,7 +31,8 @@ impl StoreFile {
 
     /// The store.
     pub fn store(&self) -> Store<'_>
-        ensures { documents_in result ≡ documents_of_file self.now }
+        ensures read { documents_in result ≡ documents_of_file self.now }
+        ensures whole { (whole_file result).bytes ≡ bytes_of_file self.now }
     {
         Store {
             bytes: self.bytes.as_slice(),

@@ -6,11 +6,11 @@ ghost use Rattle.cbor_view.specs.PartialView.{partial_item};
 ghost use Rattle.doc_store.specs.Faults.{cut_item, first_fault, item_faults, item_name, value_limit};
 
 use crate::first_fault::{Fault, sooner};
-use crate::item::Item;
 use crate::kind_faults::{fault, is_broken, name_limit, other_kind};
 use crate::limits::MOST_VALUE_BYTES;
 use crate::{ItemFault, StoreCheck};
 use cbor_view::{ENCODED, PartialView, View};
+use issuer_items::Item;
 use mdoc_outside::LimitName;
 
 /// A value that is too long.
@@ -38,18 +38,19 @@ fn cut_item(at: &PartialView<'_>) -> Option<Fault>
 }
 
 /// What is wrong with a stored item, and its name where it is one.
-#[tactic(auto, using(crate::proofs::FirstFaults::first_joined))]
-pub(crate) fn judged_item<'a>(item: &PartialView<'a>) -> (Option<Fault>, Option<&'a str>)
+#[tactic(auto, using(crate::proofs::FirstFaults::first_joined), unfolding(crate::specs::Item::item))]
+pub(crate) fn fault_and_name<'a>(item: &PartialView<'a>) -> (Option<Fault>, Option<&'a str>)
     ensures fault { result.0 ≡ first_fault (item_faults (partial_item item.now)) }
     ensures name { option_map (λ name. (name.now, partial_item item.now)) result.1 ≡ item_name (partial_item item.now) }
 {
     let Some(raw) = item.view() else {
         return (cut_item(item), None);
     };
-    match Item::read(&raw) {
+    match Item::read(raw.raw()) {
         Ok(read) => {
-            let limit = sooner(name_limit(item, read.name), value_limit(item, &read.value));
-            (limit, Some(read.name))
+            let name = read.name();
+            let limit = sooner(name_limit(item, name), value_limit(item, &read.value()));
+            (limit, Some(name))
         }
         Err(wrong) => (Some(fault(StoreCheck::Item(wrong), item)), None),
     }

@@ -44,10 +44,10 @@ AllByRecursion-map P Q (x ∷ xs) f all = (f x all.0, AllByRecursion-map P Q xs 
 -- ---- one wish
 
 -- the answer to a wish, by its place
-abbrev answer_at : List Rule → Option (List ℕ) → Store → Wanted → Option (List ℕ)
+abbrev pub answer_at : List Rule → Option (List ℕ) → Store → Wanted → Option (List ℕ)
 answer_at rules reader documents wish = cond (approved rules reader wish) (place_of documents wish.doc_type wish.ns wish.name >>= item_at documents) None
 
-answer-place : (rules : List Rule) (reader : Option (List ℕ)) (documents : Store) (wish : Wanted) →
+pub answer-place : (rules : List Rule) (reader : Option (List ℕ)) (documents : Store) (wish : Wanted) →
     answer rules reader (shown_copy documents wish.doc_type) wish ≡ answer_at rules reader documents wish
 answer-place rules reader documents wish = ap (λ (o : Option (List ℕ)). cond (approved rules reader wish) o None) (by_place (document_place documents wish.doc_type)) where
   by_document : (at : ℕ) (found : Option Document) → slice_get documents at ≡ found →
@@ -126,12 +126,17 @@ all-same rules reader one other (document ∷ asked) same =
     let parts = AllByRecursion-append _ (wishes_in document) (flat_map wishes_in asked) (rw flat_map-cons at same) in
     rw (answered-same rules reader one other document parts.0, all-same rules reader one other asked parts.1) refl
 
-pub core_same : (rules : List Rule) (reader : Option (List ℕ)) (one other : Store) (asked : List DocDraft) →
-    Agree one other (released_places rules reader one asked) → core rules reader one asked ≡ core rules reader other asked
+-- stores that agree are answered from alike
+pub answers_same : (rules : List Rule) (reader : Option (List ℕ)) (one other : Store) (asked : List DocDraft) →
+    Agree one other (released_places rules reader one asked) → map (answered rules reader one) asked ≡ map (answered rules reader other) asked
 unfolding AreSame
-core_same rules reader one other asked agree =
+answers_same rules reader one other asked agree =
     let places = released_places rules reader one asked in
     let at_places = recursion_from_All (λ (place : Place). item_at one place ≡ item_at other place) places agree.items in
     let at_wishes = filter_map-all (λ (place : Place). item_at one place ≡ item_at other place) (released_place rules reader one) (flat_map wishes_in asked) at_places in
     let same = AllByRecursion-map _ _ (flat_map wishes_in asked) (λ wish h. answer-same rules reader one other places wish agree h) at_wishes in
-    ap core_bytes (all-same rules reader one other asked same)
+    all-same rules reader one other asked same
+
+pub core_same : (rules : List Rule) (reader : Option (List ℕ)) (one other : Store) (asked : List DocDraft) →
+    Agree one other (released_places rules reader one asked) → core rules reader one asked ≡ core rules reader other asked
+core_same rules reader one other asked agree = ap core_bytes (answers_same rules reader one other asked agree)

@@ -1,5 +1,5 @@
 -- What is answered of a store, step by step.
-use Rattle.std.proofs.Common.{◌≡◌, ℕ, ◌+◌, ◌<◌, List, [], ◌∷◌, ◌++◌, length, map, get_or, drop, take, add-one, drop-cons, Option, Some, None, cond, refl, sym, ap, ◌∙◌, append_assoc}
+use Rattle.std.proofs.Common.{◌≡◌, ℕ, ◌+◌, ◌<◌, List, [], ◌∷◌, ◌++◌, length, map, get_or, drop, take, Option, Some, None, cond, sym, ap, ◌∙◌, append_assoc}
 use Rattle.std.specs.Prelude.{filter, filter_map, slice_get, is_none, option_map}
 use Rattle.std.specs.List.{cons_option}
 use Rattle.std.proofs.lemmas.List.{append-nil, map_push, map_more}
@@ -67,11 +67,6 @@ with_answers-start rules copy asked wishes start wishes_are start_is =
     ap (λ (list : List WishDraft). with_answers rules copy start (map (wanted_of asked.doc_type) list)) wishes_are
     ∙ ap (λ (d : Answered). with_answers rules copy d (wishes_in asked)) start_is
     ∙ with_answers-all rules copy _ (wishes_in asked)
-
--- the wishes from one on: it, and those behind it
-pub wishes-drop : (doc_type : List ℕ) (wishes : List WishDraft) (i : ℕ) (d : WishDraft) → i < length wishes →
-    map (wanted_of doc_type) (drop i wishes) ≡ wanted_of doc_type (get_or wishes i d) ∷ map (wanted_of doc_type) (drop (i + 1) wishes)
-wishes-drop doc_type wishes i d h = rw (add-one, drop-cons wishes i d) refl
 
 -- of the copy that a store shows it is the answer of the store
 pub answered_of_shown : (rules : List Rule) (documents : Store) (copy : Option Copy) (doc_type : List ℕ) (asked : DocDraft) →

@@ -1,9 +1,9 @@
 -- The core, written entry by entry.
 use Rattle.std.proofs.Common.{◌≡◌, ℕ, ◌+◌, ◌==◌, if◌then◌else◌, List, [], ◌∷◌, ◌++◌, length, map, refl, sym, ap, arith, ◌∙◌, append_assoc, length-append}
 use Rattle.std.specs.Prelude.{flat_map, codes}
-use Rattle.std.proofs.lemmas.List.{append-nil, length-map}
+use Rattle.std.proofs.lemmas.List.{append-nil}
 use Rattle.std.proofs.lemmas.List.Concat.{flat_map-append}
-use Rattle.cbor_view.specs.Shortest.{shortest_head, text_bytes, array_bytes, map_bytes}
+use Rattle.cbor_view.specs.Shortest.{shortest_head, text_bytes, map_bytes}
 use Rattle.mdoc_program.specs.Core.{Answered, namespace_entry, errors_entry, grouped, optional, document_bytes, core_bytes}
 use Rattle.mdoc_program.specs.Entry.{entry_bytes, given_entries, given_of, refused_of, documents_entry, document_errors_entry}
 
@@ -53,28 +53,6 @@ with_errors old b0 b1 now doc_type items (one ∷ more) some b0_is b1_is now_is 
     third_entry old (shortest_head 5 3) (text_bytes (codes "docType") ++ text_bytes doc_type)
     (text_bytes (codes "nameSpaces") ++ map_bytes (map namespace_entry (grouped items))) (text_bytes (codes "errors"))
     (map_bytes (map errors_entry (grouped (one ∷ more)))) b0 b1 now b0_is b1_is now_is
-
--- an entry that stands only where there is something in it: it isn't there
-pub nothing_written : {A : Type 0} (old key value : List ℕ) (xs : List A) → length xs ≡ 0 → old ≡ old ++ flat_map entry_bytes (optional key xs value)
-nothing_written old key value [] none = sym (append-nil old)
-nothing_written old key value (x ∷ xs) none = cc
-
-one_entry : (old key head items b1 b2 now : List ℕ) → b1 ≡ old ++ key → b2 ≡ b1 ++ head → now ≡ b2 ++ items →
-    now ≡ old ++ ((key ++ (head ++ items)) ++ [])
-one_entry old key head items b1 b2 now b1_is b2_is now_is =
-    let joined : ((old ++ key) ++ head) ++ items ≡ old ++ ((key ++ (head ++ items)) ++ []) = simp (append_assoc, append-nil) in
-    now_is ∙ ap (λ (b : List ℕ). b ++ items) (b2_is ∙ ap (λ (b : List ℕ). b ++ head) b1_is) ∙ joined
-
--- it is there, with an array
-pub array_written : {A : Type 0} (old b1 b2 now key : List ℕ) (count : ℕ) (bytes : A → List ℕ) (xs : List A) →
-    count ≡ length xs → (count ≡ 0 → ⊥) → b1 ≡ old ++ text_bytes key → b2 ≡ b1 ++ shortest_head 4 count →
-    now ≡ b2 ++ flat_map (λ part. part) (map bytes xs) →
-    now ≡ old ++ flat_map entry_bytes (optional key xs (array_bytes (map bytes xs)))
-array_written old b1 b2 now key count bytes [] count_is some b1_is b2_is now_is = absurd (some count_is)
-array_written old b1 b2 now key count bytes (x ∷ xs) count_is some b1_is b2_is now_is =
-    let parts = map bytes (x ∷ xs) in
-    one_entry old (text_bytes key) (shortest_head 4 (length parts)) (flat_map (λ (part : List ℕ). part) parts) b1 b2 now
-    b1_is (b2_is ∙ ap (λ (n : ℕ). b1 ++ shortest_head 4 n) (count_is ∙ sym (length-map (x ∷ xs) bytes))) now_is
 
 -- how many entries that are
 optional_length : {A : Type 0} (key value : List ℕ) (xs : List A) → length (optional key xs value) ≡ (if length xs == 0 then 0 else 1)

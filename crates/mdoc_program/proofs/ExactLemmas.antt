@@ -7,7 +7,8 @@ use Rattle.std.proofs.lemmas.Bool.{and_parts, and_from, not-true, or_parts, both
 use Rattle.std.proofs.lemmas.List.Elements.{All-nil, All-cons, All-map, All-contains, All-contains_itself, All-from_recursion, recursion_from_All, Contains-append_cases, filter_agree}
 use Rattle.std.proofs.lemmas.Slice.Eq.{bytes_eq-Decides}
 use Rattle.doc_store.specs.Held.{is_named, is_item, held}
-use Rattle.doc_store.specs.Item.{Item, item}
+use Rattle.issuer_items.specs.Item.{Item}
+use Rattle.doc_store.specs.Item.{item}
 use Rattle.doc_store.specs.Store.{Copy, Store}
 use Rattle.mdoc_outside.specs.OptionSteps.{◌>>=◌}
 use Rattle.mdoc_program.specs.Core.{item_given, is_missing, full_name, with_namespace, has_text, firsts, of_namespace, grouped}

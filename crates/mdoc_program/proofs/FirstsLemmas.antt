@@ -1,8 +1,7 @@
 -- The first places of texts, found one by one.
-use Rattle.std.proofs.Common.{◌≡◌, ℕ, ◌+◌, ◌<◌, length, get_or, drop, add-one, drop-cons, Bool, true, false, not, ◌&&◌, ◌||◌, cond, List, [], ◌∷◌, ◌++◌, Decides, refl, sym, ap, ◌∙◌, append_assoc}
+use Rattle.std.proofs.Common.{◌≡◌, ℕ, ◌+◌, ◌<◌, length, get_or, drop, add-one, drop-cons, Bool, true, false, not, ◌&&◌, ◌||◌, cond, List, [], ◌∷◌, ◌++◌, refl, sym, ap, ◌∙◌, append_assoc}
 use Rattle.std.specs.Prelude.{filter}
 use Rattle.std.specs.Str.{bytes_eq}
-use Rattle.std.proofs.lemmas.List.{append-nil}
 use Rattle.std.proofs.lemmas.List.Folds.{list_any-append}
 use Rattle.std.proofs.lemmas.Slice.Eq.{bytes_eq-Decides}
 use Rattle.mdoc_program.specs.Core.{has_text, firsts}
@@ -32,15 +31,7 @@ filter-alike p q (x ∷ xs) alike = rw (alike x, filter-alike p q xs alike) refl
 equal-texts : (a b : List ℕ) → (bytes_eq a b ≡ true) → a ≡ b
 equal-texts a b e = (bytes_eq-Decides a b).0 e
 
-bytes_eq-comm : (a b : List ℕ) → bytes_eq a b ≡ bytes_eq b a
-bytes_eq-comm a b = both_ways (bytes_eq a b) (bytes_eq b a) (bytes_eq-Decides a b) (bytes_eq-Decides b a) where
-  both_ways : (p q : Bool) → Decides p (a ≡ b) → Decides q (b ≡ a) → p ≡ q
-  both_ways true true p q = refl
-  both_ways true false p q = sym (q.1 (sym (p.0 refl)))
-  both_ways false true p q = p.1 (sym (q.0 refl))
-  both_ways false false p q = refl
-
--- a text that was found already is passed over
+-- a text that was found already is left out
 found-alike : (found : List (List ℕ)) (text : List ℕ) → has_text text found ≡ true → (other : List ℕ) →
     (not (bytes_eq text other) && not (has_text other found)) ≡ not (has_text other found)
 found-alike found text has other = either (bytes_eq text other) refl where
@@ -85,14 +76,11 @@ filter-all : {A : Type 0} (xs : List A) → filter (λ x. true) xs ≡ xs
 filter-all [] = refl
 filter-all (x ∷ xs) = rw (filter-all xs) refl
 
--- before the first text, and behind the last one
+-- before the first text
 pub more-start : (rest : List (List ℕ)) → more [] rest ≡ firsts rest
 more-start rest = filter-all (firsts rest)
 
-pub more-none : (found : List (List ℕ)) → more found [] ≡ found
-more-none found = append-nil found
-
--- the texts from one on: it, and those behind it
+-- the texts from one on: it, and those after it
 pub texts-drop : (list : List (Bor (List ℕ))) (i : ℕ) (d : Bor (List ℕ)) → i < length list →
     texts (drop i list) ≡ (get_or list i d).now ∷ texts (drop (i + 1) list)
 texts-drop list i d h = rw (add-one, drop-cons list i d) refl

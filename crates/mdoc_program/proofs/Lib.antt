@@ -9,6 +9,7 @@ pub mod FileFaults
 pub mod FirstsLemmas
 pub mod NumberLemmas
 pub mod OrderLemmas
+pub mod ReleasedLemmas
 pub mod RequestLemmas
 pub mod RunLemmas
 pub mod StepLemmas

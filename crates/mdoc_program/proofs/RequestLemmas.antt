@@ -12,7 +12,7 @@ use Rattle.mdoc_outside.specs.Lines.{Line, words}
 use Rattle.mdoc_outside.specs.ResultSteps.{◌>>=◌}
 use Rattle.mdoc_program.specs.Request.{IsName, IsWish, AreWishes, IsDocument, IsRequest, are_distinct}
 use Rattle.mdoc_program.specs.WishLine.{wish_line}
-use Rattle.mdoc_program.specs.Wishes.{Progress, at_start, wish_count, is_same_element, with_current, completed, with_document, refusal, unless, wanting, with_line, ended, read_on, wishes_of}
+use Rattle.mdoc_program.specs.Wishes.{Progress, at_start, wish_count, is_same_element, with_current, complete_documents, with_document, refusal, unless, with_want_in, with_line, one_or_more, read_on, wishes_of}
 use Rattle.mdoc_program.specs.declared.doc_draft.DocDraft.{DocDraft}
 use Rattle.mdoc_program.specs.declared.file_fault.FileFault.{FileFault}
 use Rattle.mdoc_program.specs.declared.file_fault.FileFault.TheVariants as fault
@@ -101,16 +101,16 @@ pub record AreComplete (documents : List DocDraft) : Type 0 where
 start-IsProgress : IsProgress at_start
 start-IsProgress = record { complete = tt; current = tt; few = omega arith; few_wishes = omega arith }
 
-completed-AreComplete : (number : ℕ) (complete : List DocDraft) (current : Option DocDraft) (documents : List DocDraft) →
+documents-AreComplete : (number : ℕ) (complete : List DocDraft) (current : Option DocDraft) (documents : List DocDraft) →
     IsProgress (record { complete = complete; current = current }) → with_current number complete current ≡ Ok documents → AreComplete documents
-completed-AreComplete number complete None documents ok e =
+documents-AreComplete number complete None documents ok e =
     let none : complete ++ [] ≡ complete = append-nil complete in
     subst AreComplete (ok_value complete documents e) (record {
       each = ok.complete;
       few = subst (λ (ds : List DocDraft). length ds ≤ 16) none ok.few;
       few_wishes = subst (λ (ds : List DocDraft). wish_count ds ≤ 2048) none ok.few_wishes;
     })
-completed-AreComplete number complete (Some document) documents ok e =
+documents-AreComplete number complete (Some document) documents ok e =
     let has = cond_ok (nat_lt 0 (length document.wishes)) (complete ++ document ∷ []) documents (fault.Line number) e in
     let one : IsDocument document = record { doc_type = ok.current.0; wishes = ok.current.1; some = ltb-true 0 (length document.wishes) has.0 } in
     subst AreComplete has.1 (record {
@@ -122,9 +122,9 @@ completed-AreComplete number complete (Some document) documents ok e =
 document-IsProgress : (number : ℕ) (doc_type : List ℕ) (progress next : Progress) → IsName doc_type → IsProgress progress →
     with_document number doc_type progress ≡ Ok next → IsProgress next
 document-IsProgress number doc_type progress next name ok e =
-    let complete = bind_ok (completed number progress) _ next e in
+    let complete = bind_ok (complete_documents number progress) _ next e in
     let room = cond_ok (nat_lt (length complete.0) 16) _ next (fault.Limit Documents 17) complete.2 in
-    let are = completed-AreComplete number progress.complete progress.current complete.0 ok complete.1 in
+    let are = documents-AreComplete number progress.complete progress.current complete.0 ok complete.1 in
     let few : length complete.0 < 16 = ltb-true (length complete.0) 16 room.0 in
     let no_wishes : AreWishes [] = record { names = tt; few = omega arith; distinct = refl } in
     subst IsProgress room.1 (record {
@@ -135,17 +135,17 @@ document-IsProgress number doc_type progress next name ok e =
     })
 
 -- a wish that isn't refused
-pub record IsRoom (wish : WishDraft) (wishes : List WishDraft) (counted : ℕ) : Type 0 where
+pub record IsRoom (wish : WishDraft) (wishes : List WishDraft) (count : ℕ) : Type 0 where
   pub other : list_any (is_same_element wish) wishes ≡ false
   pub few : length wishes < 512
-  pub few_wishes : counted < 2048
+  pub few_wishes : count < 2048
 
-room_from : (number : ℕ) (wish : WishDraft) (wishes : List WishDraft) (counted : ℕ) → refusal number wish wishes counted ≡ None → IsRoom wish wishes counted
-room_from number wish wishes counted e =
+room_from : (number : ℕ) (wish : WishDraft) (wishes : List WishDraft) (count : ℕ) → refusal number wish wishes count ≡ None → IsRoom wish wishes count
+room_from number wish wishes count e =
     let first = cond_none (list_any (is_same_element wish) wishes) _ _ e in
     let second = cond_none (nat_le 512 (length wishes)) _ _ first.1 in
-    let third = cond_none (nat_le 2048 counted) _ _ second.1 in
-    record { other = first.0; few = leb-false 512 (length wishes) second.0; few_wishes = leb-false 2048 counted third.0 } where
+    let third = cond_none (nat_le 2048 count) _ _ second.1 in
+    record { other = first.0; few = leb-false 512 (length wishes) second.0; few_wishes = leb-false 2048 count third.0 } where
       cond_none : (b : Bool) (x : FileFault) (o : Option FileFault) → cond b (Some x) o ≡ None → (b ≡ false) × (o ≡ None)
       cond_none true x o e = absurd cc
       cond_none false x o e = (refl, e)
@@ -155,13 +155,13 @@ unless_ok None x y e = (refl, ok_value x y e)
 unless_ok (Some f) x y e = absurd cc
 
 want-IsProgress : (number : ℕ) (wish : WishDraft) (complete : List DocDraft) (current : Option DocDraft) (next : Progress) → IsWish wish →
-    IsProgress (record { complete = complete; current = current }) → wanting number wish complete current ≡ Ok next → IsProgress next
+    IsProgress (record { complete = complete; current = current }) → with_want_in number wish complete current ≡ Ok next → IsProgress next
 want-IsProgress number wish complete None next is ok e = absurd cc
 want-IsProgress number wish complete (Some document) next is ok e =
-    let counted = wish_count complete + length document.wishes in
+    let count = wish_count complete + length document.wishes in
     let more : DocDraft = record { doc_type = document.doc_type; wishes = document.wishes ++ wish ∷ [] } in
-    let added = unless_ok (refusal number wish document.wishes counted) (record { complete = complete; current = Some more }) next e in
-    let room = room_from number wish document.wishes counted added.0 in
+    let added = unless_ok (refusal number wish document.wishes count) (record { complete = complete; current = Some more }) next e in
+    let room = room_from number wish document.wishes count added.0 in
     let longer = length-append document.wishes (wish ∷ []) in
     subst IsProgress added.1 (record {
       complete = ok.complete;
@@ -183,18 +183,18 @@ line-IsProgress number None progress next says ok e = absurd cc
 line-IsProgress number (Some (Document doc_type)) progress next says ok e = document-IsProgress number doc_type progress next says ok e
 line-IsProgress number (Some (Want wish)) progress next says ok e = want-IsProgress number wish progress.complete progress.current next says ok e
 
-ended_some : (last : ℕ) (complete documents : List DocDraft) → ended last complete ≡ Ok documents → (complete ≡ documents) × (0 < length documents)
-ended_some last [] documents e = absurd cc
-ended_some last (d ∷ ds) documents e =
+one_or_more-some : (last : ℕ) (complete documents : List DocDraft) → one_or_more last complete ≡ Ok documents → (complete ≡ documents) × (0 < length documents)
+one_or_more-some last [] documents e = absurd cc
+one_or_more-some last (d ∷ ds) documents e =
     let same = ok_value (d ∷ ds) documents e in
     (same, subst (λ (all : List DocDraft). 0 < length all) same (omega arith))
 
 read_on-IsRequest : (last : ℕ) (progress : Progress) (lines : List Line) (documents : List DocDraft) → IsProgress progress →
     read_on last progress lines ≡ Ok documents → IsRequest documents
 read_on-IsRequest last progress [] documents ok e =
-    let complete = bind_ok (completed last progress) (ended last) documents e in
-    let are = completed-AreComplete last progress.complete progress.current complete.0 ok complete.1 in
-    let some = ended_some last complete.0 documents complete.2 in
+    let complete = bind_ok (complete_documents last progress) (one_or_more last) documents e in
+    let are = documents-AreComplete last progress.complete progress.current complete.0 ok complete.1 in
+    let some = one_or_more-some last complete.0 documents complete.2 in
     let all = subst AreComplete some.0 are in
     record { each = all.each; some = some.1; few = all.few; few_wishes = all.few_wishes }
 read_on-IsRequest last progress (line ∷ lines) documents ok e =

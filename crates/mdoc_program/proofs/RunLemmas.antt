@@ -90,8 +90,8 @@ abbrev of_work : Status → List (List ℕ) → List (List ℕ × List ℕ) → 
 of_work last lines files released = record { status = last; lines = lines; files = files; released = released }
 
 -- want of memory before anything was done
-wanting : (outcome : Outcome) (before now : World) → now ≡ before → IsWork outcome before now statuses.Memory
-wanting outcome before now same = record {
+want_of_memory : (outcome : Outcome) (before now : World) → now ≡ before → IsWork outcome before now statuses.Memory
+want_of_memory outcome before now same = record {
   stop = Wanting [] [];
   answer = refl;
   place = (front-none outcome.files, front-none outcome.lines, inl refl);
@@ -122,7 +122,7 @@ last-is last released before now statuses.Cabinet work same is = all-done last r
 last-is last released before now (statuses.Form role check at) work same is = all-done last released before now (statuses.Form role check at) work same is
 last-is last released before now statuses.Sink work same is = all-done last released before now statuses.Sink work same is
 last-is last released before now (statuses.Limit limit number) work same is = all-done last released before now (statuses.Limit limit number) work same is
-last-is last released before now statuses.Memory work same is = wanting (of_work last [] [] released) before now same
+last-is last released before now statuses.Memory work same is = want_of_memory (of_work last [] [] released) before now same
 
 -- ---- lines
 
@@ -141,7 +141,7 @@ put-ends : (line : List ℕ) (lines : List (List ℕ)) (last : Status) (released
     PutEnds line before.sink now.sink status → IsWork (of_work last (line ∷ lines) [] released) before now status
 put-ends line lines last released before now statuses.Sink same ends = put-failed line lines last released before now same ends
 put-ends line lines last released before now statuses.Memory same ends =
-    wanting (of_work last (line ∷ lines) [] released) before now (ap (λ (c : State CabinetTold). world c now.sink) same ∙ ap (λ (s : State (List SinkCall)). world before.cabinet s) ends)
+    want_of_memory (of_work last (line ∷ lines) [] released) before now (ap (λ (c : State CabinetTold). world c now.sink) same ∙ ap (λ (s : State (List SinkCall)). world before.cabinet s) ends)
 put-ends line lines last released before now statuses.Done same ends = absurd ends
 put-ends line lines last released before now statuses.Usage same ends = absurd ends
 put-ends line lines last released before now (statuses.Missing role) same ends = absurd ends
@@ -232,7 +232,7 @@ write-failed file files lines last released before now failed same = record {
 write-ends : (file : List ℕ × List ℕ) (files : List (List ℕ × List ℕ)) (lines : List (List ℕ)) (last : Status) (released : List Place) (before now : World) (status : Status) →
     WriteEnds file before now status → IsWork (of_work last lines (file ∷ files) released) before now status
 write-ends file files lines last released before now statuses.Cabinet ends = write-failed file files lines last released before now ends.0 ends.1
-write-ends file files lines last released before now statuses.Memory ends = wanting (of_work last lines (file ∷ files) released) before now ends
+write-ends file files lines last released before now statuses.Memory ends = want_of_memory (of_work last lines (file ∷ files) released) before now ends
 write-ends file files lines last released before now statuses.Done ends = absurd ends
 write-ends file files lines last released before now statuses.Usage ends = absurd ends
 write-ends file files lines last released before now (statuses.Missing role) ends = absurd ends

@@ -36,8 +36,8 @@ read-request text documents (Ok others) read is =
 read-request text documents (Err fault) read is = absurd cc
 
 -- a wishes file that is opened gives a request
-pub opened_request : (found : Option (List ℕ)) (documents : List DocDraft) → content_of roles.Wishes found ≡ Ok (OfWishes documents) → IsRequest documents
-opened_request None documents is = absurd cc
-opened_request (Some text) documents is =
+pub content_is_request : (found : Option (List ℕ)) (documents : List DocDraft) → content_of roles.Wishes found ≡ Ok (OfWishes documents) → IsRequest documents
+content_is_request None documents is = absurd cc
+content_is_request (Some text) documents is =
     elim (nat_le (length text) 16777216) as (λ t. (cond t (Ok text) (Err (Limit FileBytes (length text))) >>= form roles.Wishes) ≡ Ok (OfWishes documents) → IsRequest documents)
     [ true ↦ λ e. read-request text documents (wishes_of text) refl e | false ↦ λ e. absurd cc ] is

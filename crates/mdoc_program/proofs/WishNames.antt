@@ -68,14 +68,14 @@ named word name e =
 
 document_line-names : (word doc_type : List ℕ) (said : WishLine) → document_line word doc_type ≡ Some said → HasNames said
 document_line-names word doc_type said e =
-    let behind_word = cond_some (bytes_eq word _) (name_of doc_type >>= λ name. Some (Document name)) said e in
-    let name = bind_some (name_of doc_type) (λ name. Some (Document name)) said behind_word.1 in
+    let after_word = cond_some (bytes_eq word _) (name_of doc_type >>= λ name. Some (Document name)) said e in
+    let name = bind_some (name_of doc_type) (λ name. Some (Document name)) said after_word.1 in
     subst HasNames (same_value (Document name.0) said name.2) (named doc_type name.0 name.1)
 
 want_line-names : (word ns name retain : List ℕ) (said : WishLine) → want_line word ns name retain ≡ Some said → HasNames said
 want_line-names word ns name retain said e =
-    let behind_word = cond_some (bytes_eq word _) _ said e in
-    let space = bind_some (name_of ns) _ said behind_word.1 in
+    let after_word = cond_some (bytes_eq word _) _ said e in
+    let space = bind_some (name_of ns) _ said after_word.1 in
     let element = bind_some (name_of name) _ said space.2 in
     let keep = bind_some (flag_of retain) _ said element.2 in
     subst HasNames (same_value (Want (record { ns = space.0; name = element.0; retain = keep.0 })) said keep.2)

@@ -3,8 +3,8 @@ use Rattle.std.specs.Prelude.{ℕ, List, ◌++◌, codes}
 use Rattle.std.specs.Fmt.{decimal}
 use Rattle.cbor_view.specs.declared.cbor_kind.CborKind.{CborKind}
 use Rattle.cbor_view.specs.declared.cbor_kind.CborKind.TheVariants as kinds
-use Rattle.doc_store.specs.declared.item_fault.ItemFault.{ItemFault}
-use Rattle.doc_store.specs.declared.item_fault.ItemFault.TheVariants as items
+use Rattle.issuer_items.specs.declared.item_fault.ItemFault.{ItemFault}
+use Rattle.issuer_items.specs.declared.item_fault.ItemFault.TheVariants as items
 use Rattle.doc_store.specs.declared.store_check.StoreCheck.{StoreCheck}
 use Rattle.doc_store.specs.declared.store_check.StoreCheck.TheVariants as stores
 use Rattle.mdoc_outside.specs.KeyName.{key_text}

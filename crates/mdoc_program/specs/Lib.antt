@@ -19,6 +19,7 @@ pub mod Outcome
 pub mod Printed
 pub mod Progress
 pub mod Released
+pub mod ReleasedExactly
 pub mod Request
 pub mod Row
 pub mod Rule

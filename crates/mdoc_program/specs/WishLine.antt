@@ -11,17 +11,17 @@ use Rattle.mdoc_program.specs.declared.wish_line.WishLine.TheVariants.{Document,
 abbrev pub name_of : List ℕ → Option (List ℕ)
 name_of word = if is_name word then Some word else None
 
--- what stands behind a keyword
-abbrev pub behind : List ℕ → List ℕ → Option WishLine → Option WishLine
-behind keyword word said = if bytes_eq word keyword then said else None
+-- what is said after a keyword
+abbrev pub after_keyword : List ℕ → List ℕ → Option WishLine → Option WishLine
+after_keyword keyword word said = if bytes_eq word keyword then said else None
 
 -- `document TYPE`
 abbrev pub document_line : List ℕ → List ℕ → Option WishLine
-document_line word doc_type = behind (codes "document") word (name_of doc_type >>= λ name. Some (Document name))
+document_line word doc_type = after_keyword (codes "document") word (name_of doc_type >>= λ name. Some (Document name))
 
 -- `want NAMESPACE ELEMENT RETAIN`
 abbrev pub want_line : List ℕ → List ℕ → List ℕ → List ℕ → Option WishLine
-want_line word ns name retain = behind (codes "want") word (do
+want_line word ns name retain = after_keyword (codes "want") word (do
   space ← name_of ns
   element ← name_of name
   keep ← flag_of retain

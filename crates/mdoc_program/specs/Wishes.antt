@@ -36,53 +36,53 @@ with_current number complete None = Ok complete
 with_current number complete (Some document) = if nat_lt 0 (length document.wishes) then Ok (complete ++ document ∷ []) else Err (fault.Line number)
 
 -- The documents, once the last one is complete.
-abbrev pub completed : ℕ → Progress → Result (List DocDraft) FileFault
-completed number progress = with_current number progress.complete progress.current
+abbrev pub complete_documents : ℕ → Progress → Result (List DocDraft) FileFault
+complete_documents number progress = with_current number progress.complete progress.current
 
 -- a line that begins a document, of which there are at most 16
 abbrev pub with_document : ℕ → List ℕ → Progress → Result Progress FileFault
 with_document number doc_type progress = do
-  complete ← completed number progress
+  complete ← complete_documents number progress
   if nat_lt (length complete) 16 then Ok (record { complete = complete; current = Some (record { doc_type = doc_type; wishes = [] }) }) else Err (fault.Limit Documents 17)
 
 -- What is wrong with one more wish of a document, if something is: none before it is for the same element, and
 -- there are at most 512 in a document and 2,048 in all.
 abbrev pub refusal : ℕ → WishDraft → List WishDraft → ℕ → Option FileFault
-refusal number wish wishes counted =
+refusal number wish wishes count =
     if list_any (is_same_element wish) wishes then Some (fault.Line number) else
     if nat_le 512 (length wishes) then Some (fault.Limit Wishes 513) else
-    if nat_le 2048 counted then Some (fault.Limit Wishes 2049) else None
+    if nat_le 2048 count then Some (fault.Limit Wishes 2049) else None
 
 abbrev pub unless : {A : Type 0} → Option FileFault → A → Result A FileFault
 unless None value = Ok value
 unless (Some refused) value = Err refused
 
 -- a line that wants an element of the document that is being read
-abbrev pub wanting : ℕ → WishDraft → List DocDraft → Option DocDraft → Result Progress FileFault
-wanting number wish complete None = Err (fault.Line number)
-wanting number wish complete (Some document) =
+abbrev pub with_want_in : ℕ → WishDraft → List DocDraft → Option DocDraft → Result Progress FileFault
+with_want_in number wish complete None = Err (fault.Line number)
+with_want_in number wish complete (Some document) =
     unless (refusal number wish document.wishes (wish_count complete + length document.wishes))
     (record { complete = complete; current = Some (record { doc_type = document.doc_type; wishes = document.wishes ++ wish ∷ [] }) })
 
 abbrev pub with_want : ℕ → WishDraft → Progress → Result Progress FileFault
-with_want number wish progress = wanting number wish progress.complete progress.current
+with_want number wish progress = with_want_in number wish progress.complete progress.current
 
 abbrev pub with_line : ℕ → Option WishLine → Progress → Result Progress FileFault
 with_line number None progress = Err (fault.Line number)
 with_line number (Some (Document doc_type)) progress = with_document number doc_type progress
 with_line number (Some (Want wish)) progress = with_want number wish progress
 
--- a file ends behind a complete document
-abbrev pub ended : ℕ → List DocDraft → Result (List DocDraft) FileFault
-ended last [] = Err (fault.Line last)
-ended last (document ∷ documents) = Ok (document ∷ documents)
+-- a file ends after a complete document: there is one
+abbrev pub one_or_more : ℕ → List DocDraft → Result (List DocDraft) FileFault
+one_or_more last [] = Err (fault.Line last)
+one_or_more last (document ∷ documents) = Ok (document ∷ documents)
 
-abbrev pub finished : ℕ → Progress → Result (List DocDraft) FileFault
-finished last progress = completed last progress >>= ended last
+abbrev pub documents_at_end : ℕ → Progress → Result (List DocDraft) FileFault
+documents_at_end last progress = complete_documents last progress >>= one_or_more last
 
 -- the documents of the lines that are left; a file that ends too early is wrong at its last line
 abbrev pub read_on : ℕ → Progress → List Line → Result (List DocDraft) FileFault
-read_on last progress [] = finished last progress
+read_on last progress [] = documents_at_end last progress
 read_on last progress (line ∷ rest) = with_line line.number (wish_line (words line.bytes)) progress >>= λ next. read_on last next rest
 
 -- The documents that a wishes file spells, else its first fault.

@@ -5,6 +5,7 @@ ghost use Rattle.mdoc_program.specs.Exact.{EachMissingOnce, EachReleasedOnce};
 ghost use Rattle.mdoc_program.specs.Exact.{OnlyMissing, OnlyReleased};
 ghost use Rattle.mdoc_program.specs.Exactly.{CabinetExactly, DoneOnlyOpened, DonePrintsAll};
 ghost use Rattle.mdoc_program.specs.Exactly.{FormExactly, LimitExactly, MissingExactly};
+ghost use Rattle.mdoc_program.specs.ReleasedExactly.{AgreementIsLeast, CoreIsReleased, PlacesAreOfCore};
 ghost use Rattle.mdoc_program.specs.WordCases.{OptionalPairs, OtherSizes, SizesInRange};
 
 /// The law of a worked case: over the empty store a document that is asked for is answered with an error.
@@ -52,6 +53,20 @@ pub fn only_missing()
 /// one element.
 pub fn each_missing_once()
     ensures { EachMissingOnce }
+{}
+
+/// The laws that the items of the core are those that the rules release, and that the released places are those of these
+/// items, one by one and no others.
+pub fn released_exactly()
+    ensures items { CoreIsReleased }
+    ensures places { PlacesAreOfCore }
+{}
+
+/// The law that agreement is as weak as it can be: stores of equal outlines agree up to the released places exactly where
+/// their cores have equal items.
+#[tactic(auto, using(crate::proofs::ReleasedLemmas::agreement_is_least))]
+pub fn agreement_is_least()
+    ensures { AgreementIsLeast }
 {}
 
 /// The law that stores which agree up to the places of the released items print the same lines.

@@ -43,9 +43,9 @@ pub use doc_draft::DocDraft;
 pub use file_fault::FileFault;
 pub use form_check::FormCheck;
 pub use laws::{
-    absent_document, agreeing_stores, denied_is_as_absent, done_exactly, each_missing_once,
-    each_released_once, failed_read_exactly, missing_exactly, one_released, only_missing,
-    only_released, refused_exactly, words_in_form,
+    absent_document, agreeing_stores, agreement_is_least, denied_is_as_absent, done_exactly,
+    each_missing_once, each_released_once, failed_read_exactly, missing_exactly, one_released,
+    only_missing, only_released, refused_exactly, released_exactly, words_in_form,
 };
 pub use pair_kind::PairKind;
 pub use program::run;

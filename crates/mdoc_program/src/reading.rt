@@ -3,7 +3,7 @@ ghost use Rattle.std.specs.Prelude.{◌≡◌, ◌+◌, ◌≤◌, List, IfOk};
 ghost use Rattle.std.specs.List.{list_any};
 ghost use Rattle.mdoc_program.specs.FileFault.{ReadsFile};
 ghost use Rattle.mdoc_program.specs.OpenDocument.{open_count};
-ghost use Rattle.mdoc_program.specs.Wishes.{Progress, wish_count, at_start, completed, finished, is_same_element, refusal, with_document, with_want, with_line};
+ghost use Rattle.mdoc_program.specs.Wishes.{Progress, wish_count, at_start, complete_documents, documents_at_end, is_same_element, refusal, with_document, with_want, with_line};
 
 use crate::open_document::OpenDocument;
 use crate::wish_line::WishLine;
@@ -24,9 +24,9 @@ const MOST_WISHES: usize = 2048;
 pub(crate) struct Reading {
     pub(crate) complete: Vec<DocDraft>,
     pub(crate) current: Option<OpenDocument>,
-    pub(crate) counted: usize,
-    ghost counts: { counted ≡ wish_count complete.items + open_count current },
-    ghost in_range: { counted ≤ 2048 },
+    pub(crate) count: usize,
+    ghost counts: { count ≡ wish_count complete.items + open_count current },
+    ghost in_range: { count ≤ 2048 },
 }
 
 // Whether two wishes are for one element.
@@ -43,15 +43,15 @@ fn holds_element(wishes: &[WishDraft], wish: &WishDraft) -> bool
     wishes.iter().any(|other| is_same_element(wish, other))
 }
 
-// What is wrong with one more wish of a document, `counted` being the number of all wishes so far.
-fn refusal(number: u64, wish: &WishDraft, wishes: &[WishDraft], counted: usize) -> Option<FileFault>
-    ensures { result ≡ refusal number wish.now wishes.now counted }
+// What is wrong with one more wish of a document, `count` being the number of all wishes so far.
+fn refusal(number: u64, wish: &WishDraft, wishes: &[WishDraft], count: usize) -> Option<FileFault>
+    ensures { result ≡ refusal number wish.now wishes.now count }
 {
     if holds_element(wishes, wish) {
         Some(FileFault::Line(number))
     } else if wishes.len() >= MOST_WISHES_OF_DOCUMENT {
         Some(FileFault::Limit(LimitName::Wishes, 513))
-    } else if counted >= MOST_WISHES {
+    } else if count >= MOST_WISHES {
         Some(FileFault::Limit(LimitName::Wishes, 2049))
     } else {
         None
@@ -67,30 +67,30 @@ impl Reading {
         Reading {
             complete: Vec::new(alloc),
             current: None,
-            counted: 0,
+            count: 0,
         }
     }
 
     // The documents with the number of their wishes, once the one that is being read is complete.
-    fn completed(self, number: u64) -> Result<(Vec<DocDraft>, usize), FileFault>
-        ensures documents { ReadsFile (λ read. read.0.items) result (completed number (progress self)) }
-        ensures counted { IfOk result (λ read. read.1 ≡ wish_count read.0.items) }
+    fn complete_documents(self, number: u64) -> Result<(Vec<DocDraft>, usize), FileFault>
+        ensures documents { ReadsFile (λ read. read.0.items) result (complete_documents number (progress self)) }
+        ensures count { IfOk result (λ read. read.1 ≡ wish_count read.0.items) }
         ensures in_range { IfOk result (λ read. read.1 ≤ 2048) }
     {
         let Reading {
             mut complete,
             current,
-            counted,
+            count,
         } = self;
         match current {
-            None => Ok((complete, counted)),
+            None => Ok((complete, count)),
             Some(OpenDocument { doc_type, wishes }) => {
                 if wishes.is_empty() {
                     return Err(FileFault::Line(number));
                 }
                 let wishes = Rows::from_vec(wishes);
                 complete.push(DocDraft { doc_type, wishes })?;
-                Ok((complete, counted))
+                Ok((complete, count))
             }
         }
     }
@@ -104,7 +104,7 @@ impl Reading {
     ) -> Result<Reading, FileFault>
         ensures { ReadsFile progress result (with_document number doc_type (progress self)) }
     {
-        let (complete, counted) = self.completed(number)?;
+        let (complete, count) = self.complete_documents(number)?;
         if complete.len() >= MOST_DOCUMENTS {
             return Err(FileFault::Limit(LimitName::Documents, 17));
         }
@@ -112,7 +112,7 @@ impl Reading {
         Ok(Reading {
             complete,
             current: Some(OpenDocument { doc_type, wishes }),
-            counted,
+            count,
         })
     }
 
@@ -124,7 +124,7 @@ impl Reading {
         let Reading {
             complete,
             current,
-            counted,
+            count,
         } = self;
         let Some(
             OpenDocument {
@@ -135,14 +135,14 @@ impl Reading {
         else {
             return Err(FileFault::Line(number));
         };
-        if let Some(fault) = refusal(number, &wish, &wishes, counted) {
+        if let Some(fault) = refusal(number, &wish, &wishes, count) {
             return Err(fault);
         }
         wishes.push(wish)?;
         Ok(Reading {
             complete,
             current: Some(OpenDocument { doc_type, wishes }),
-            counted: counted + 1,
+            count: count + 1,
         })
     }
 
@@ -164,9 +164,9 @@ impl Reading {
 
     // The request, where the file ends here, `last` being the number of its last line.
     pub(crate) fn finish(self, last: u64) -> Result<RequestDraft, FileFault>
-        ensures { ReadsFile (λ request. request.documents) result (finished last (progress self)) }
+        ensures { ReadsFile (λ request. request.documents) result (documents_at_end last (progress self)) }
     {
-        let (documents, _) = self.completed(last)?;
+        let (documents, _) = self.complete_documents(last)?;
         if documents.is_empty() {
             return Err(FileFault::Line(last));
         }

@@ -4,8 +4,8 @@ use Rattle.cbor_view.specs.PartialItem.{PartialItem}
 use Rattle.cbor_view.specs.PartialPairs.{partial_pairs_left}
 use Rattle.mdoc_outside.specs.declared.key_name.KeyName.TheVariants as keys
 use Rattle.doc_store.specs.Faults.{values_of, with_text}
-use Rattle.doc_store.specs.Names.{repeated_from}
-use Rattle.doc_store.proofs.repeated.take_types.Given as goal
+use Rattle.doc_store.specs.Names.{repeats_from}
+use Rattle.doc_store.proofs.repeats.take_types.Given as goal
 
 -- the pairs that are left decide, by the types so far
 abbrev pub invariant-loop-key : goal.invariant-loop-key
@@ -13,5 +13,5 @@ invariant-loop-key l =
     (goal.iterator-loop-key).can_next l.key-iterator ×
     (goal.iterator-loop-key).is_finite l.key-iterator ×
     ((others : List (List ℕ × PartialItem)) →
-    repeated_from l.types (filter_map with_text (values_of keys.DocType (partial_pairs_left l.key-iterator)) ++ others)
-    ≡ repeated_from l.fn.types (filter_map with_text (values_of keys.DocType (partial_pairs_left l.fn.entries)) ++ others))
+    repeats_from l.types (filter_map with_text (values_of keys.DocType (partial_pairs_left l.key-iterator)) ++ others)
+    ≡ repeats_from l.fn.types (filter_map with_text (values_of keys.DocType (partial_pairs_left l.fn.entries)) ++ others))

@@ -1,0 +1,8 @@
+use Rattle.std.proofs.Common.{sym}
+use Rattle.cbor_view.specs.View.{part}
+use Rattle.doc_store.specs.StoredCopy.{copy_part}
+use Rattle.doc_store.proofs.PartsLie.{auth-lies}
+use Rattle.doc_store.proofs.stored_copy.StoredCopy.issuer_auth.Goals as goal
+
+pub returns-clause-lies : goal.returns-clause-lies
+returns-clause-lies c = auth-lies (copy_part c.args.self.now) (part c.in-Some.auth) (sym c.in-Some.ensures)
