@@ -32,7 +32,9 @@ mod wallet_open;
 mod wallet_session;
 
 pub use kept::Kept;
-pub use laws::{first_request_is_opened, next_messages_are_opened, written_messages_are_read};
+pub use laws::{
+    first_ivs, first_request_is_opened, next_messages_are_opened, written_messages_are_read,
+};
 pub use reader_answered::ReaderAnswered;
 pub use reader_end::ReaderEnd;
 pub use reader_ended::ReaderEnded;
