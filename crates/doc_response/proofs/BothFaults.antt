@@ -1,5 +1,5 @@
 -- Two faults, of which the first in the order is taken.
-use Rattle.std.proofs.Common.{◌≡◌, Result, Ok, Err, refl, sym, ap, ◌∙◌}
+use Rattle.std.proofs.Common.{◌≡◌, Result, Err, sym, ap, ◌∙◌}
 use Rattle.cbor_maps.specs.declared.map_fault.MapFault.{MapFault}
 use Rattle.doc_response.specs.declared.response_fault.ResponseFault.{ResponseFault}
 use Rattle.doc_response.specs.Faults.{both, first_of, found, response_fault}

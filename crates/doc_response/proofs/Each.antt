@@ -1,5 +1,5 @@
 -- Reading each part of a list, one part after the other.
-use Rattle.std.proofs.Common.{◌≡◌, Bool, true, false, List, [], ◌∷◌, Option, Some, None, Result, Ok, Err, refl}
+use Rattle.std.proofs.Common.{◌≡◌, true, false, List, [], ◌∷◌, Option, Some, None, Ok, Err, refl}
 use Rattle.std.specs.Prelude.{is_some, unwrap_or}
 use Rattle.mdoc_outside.specs.OptionSteps.{◌>>=◌, each}
 use Rattle.mdoc_outside.specs.ResultSteps.{or_fault}

@@ -1,7 +1,7 @@
 -- Namespaces that were written are read as they were given.
-use Rattle.std.proofs.Common.{◌≡◌, ◌+◌, ◌<◌, ◌^◌, ℕ, List, [], ◌∷◌, length, map, Option, Some, None, refl, ap, ◌∙◌, arith}
-use Rattle.mdoc_outside.specs.OptionSteps.{◌>>=◌, each}
-use Rattle.cbor_view.specs.Parts.{Part, text_in, items_in, pairs_in}
+use Rattle.std.proofs.Common.{◌≡◌, ◌+◌, ◌<◌, ◌^◌, ℕ, List, [], ◌∷◌, length, map, Some, refl, ap, ◌∙◌, arith}
+use Rattle.mdoc_outside.specs.OptionSteps.{each}
+use Rattle.cbor_view.specs.Parts.{Part, text_in}
 use Rattle.cbor_view.specs.Shortest.{array_bytes, map_bytes, text_bytes}
 use Rattle.cbor_view.specs.Tree.{Text}
 use Rattle.cbor_view.proofs.WrittenParts.{IsPiece, AllPieces, ArePieces, entries_from, items-written, items_begin, pairs-written, pairs_begin, parts_from, piece-array, piece-map, piece-shortest, tree-shortest}

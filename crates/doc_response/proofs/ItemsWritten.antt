@@ -1,7 +1,6 @@
 -- Items that were written are read by their namespaces.
-use Rattle.std.proofs.Common.{◌≡◌, ◌<◌, ◌^◌, ℕ, List, [], ◌∷◌, length, map, Some, refl, ap, ◌∙◌, arith}
+use Rattle.std.proofs.Common.{ℕ, List, [], ◌∷◌, map, ap, ◌∙◌, arith}
 use Rattle.std.specs.List.{AllByRecursion, flat_map}
-use Rattle.cbor_view.specs.Parts.{Part}
 use Rattle.cbor_view.proofs.WrittenParts.{AllPieces, IsPiece}
 use Rattle.cbor_maps.specs.WrittenReads.{SpellsItem}
 use Rattle.doc_response.specs.Answered.{firsts, grouped, items_map, namespace_entry, of_namespace}
@@ -31,8 +30,7 @@ groups-of : (items : Pairs) → AreWritable items → (names : List (List ℕ)) 
 groups-of items are [] all = tt
 groups-of items are (name ∷ names) all =
     let few = are.few in
-    let fewer = of-fewer name items in
-    (
+    let fewer = of-fewer name items in (
       record {
         text = all.0;
         items = to-pieces (of_namespace items name).1 (of-all (SpellsItem 25) name items (raws-all items are.each));

@@ -1,5 +1,5 @@
 -- The last document is changed in its place.
-use Rattle.std.proofs.Common.{◌≡◌, false, ℕ, zero, suc, ◌+◌, List, [], ◌∷◌, length, map, get_or, set, Result, Ok, Err, OnOk, refl, sym, ap, ◌∙◌, arith}
+use Rattle.std.proofs.Common.{◌≡◌, false, ℕ, zero, suc, ◌+◌, List, [], ◌∷◌, length, map, get_or, set, Result, Ok, Err, OnOk, refl, ap, ◌∙◌, arith}
 use Rattle.std.specs.List.{list_any}
 use Rattle.doc_response.specs.declared.draft_document.DraftDocument.{DraftDocument}
 use Rattle.doc_response.specs.Answered.{Answered}

@@ -1,5 +1,5 @@
 -- Fields that are put after bytes are the map after them.
-use Rattle.std.proofs.Common.{◌≡◌, ℕ, ◌+◌, List, [], ◌∷◌, ◌++◌, length, Option, Some, None, refl, sym, ap, ◌∙◌, append_assoc, arith}
+use Rattle.std.proofs.Common.{◌≡◌, ℕ, ◌+◌, List, [], ◌∷◌, ◌++◌, length, Option, Some, None, refl, ap, ◌∙◌, append_assoc, arith}
 use Rattle.mdoc_outside.specs.declared.key_name.KeyName.{KeyName}
 use Rattle.cbor_maps.specs.Writing.{Fields, with_values, key_bytes, map_head, put, onto, named_map}
 use Rattle.doc_response.specs.Answered.{if_any}

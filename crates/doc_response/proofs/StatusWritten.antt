@@ -1,16 +1,15 @@
 -- A response of another status than 0 is read as that status alone.
-use Rattle.std.proofs.Common.{◌≡◌, ◌==◌, ◌<◌, ◌^◌, ℕ, zero, suc, Bool, false, if◌then◌else◌, List, [], ◌∷◌, Some, None, Ok, refl, ap, subst, sym, arith, codes}
+use Rattle.std.proofs.Common.{◌≡◌, ◌==◌, ◌<◌, ◌^◌, ℕ, zero, suc, Bool, false, if◌then◌else◌, List, Ok, refl, ap, subst, sym, arith, codes}
 use Rattle.mdoc_outside.specs.declared.key_name.KeyName.TheVariants as keys
-use Rattle.cbor_view.specs.Parts.{Part}
 use Rattle.cbor_view.specs.Shortest.{uint_bytes}
-use Rattle.cbor_view.specs.Tree.{Tree, Unsigned, Text}
+use Rattle.cbor_view.specs.Tree.{Unsigned, Text}
 use Rattle.cbor_view.proofs.WrittenParts.{IsPiece, piece-shortest, cbor-piece, tree-shortest}
 use Rattle.cbor_maps.specs.Writing.{with_values, named_map}
 use Rattle.cbor_maps.specs.WrittenReads.{SpellsItem, AreItems}
 use Rattle.cbor_maps.proofs.WrittenMaps.{under, under-none, piece-named, utf8-ascii}
 use Rattle.cose_msgs.specs.Written.{IsReadAs}
 use Rattle.doc_response.specs.Draft.{Draft}
-use Rattle.doc_response.specs.Response.{Response, response}
+use Rattle.doc_response.specs.Response.{response}
 use Rattle.doc_response.specs.Written.{full_fields, refusal_fields, response_bytes, version}
 use Rattle.doc_response.specs.WrittenReads.{status_alone}
 

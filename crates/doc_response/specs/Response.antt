@@ -1,6 +1,6 @@
 -- The response as it is read (DeviceResponse; ISO/IEC 18013-5, 8.3.2.1.2.2): what an item says, or the first of its
 -- faults. The keys of a map may have any order, and keys that its table doesn't name are ignored.
-use Rattle.std.specs.Prelude.{ℕ, ◌==◌, Bool, true, false, ◌&&◌, if◌then◌else◌, List, [], ◌∷◌, map, Option, Some, None, Result, Ok, Err}
+use Rattle.std.specs.Prelude.{ℕ, ◌==◌, Bool, false, ◌&&◌, if◌then◌else◌, List, [], ◌∷◌, map, Option, Some, None, Result, Ok, Err}
 use Rattle.std.specs.List.{flat_map}
 use Rattle.mdoc_outside.specs.declared.key_name.KeyName.{KeyName}
 use Rattle.mdoc_outside.specs.declared.key_name.KeyName.TheVariants as keys

@@ -1,6 +1,5 @@
 -- What contracts see of a document that was read, and of what the documents of a response have left.
-use Rattle.std.specs.Prelude.{List, [], option_map, unwrap_or}
-use Rattle.cbor_view.specs.Parts.{Part}
+use Rattle.std.specs.Prelude.{List, []}
 use Rattle.cbor_view.specs.View.{part}
 use Rattle.doc_response.specs.declared.issuer_part.IssuerPart.{IssuerPart}
 use Rattle.doc_response.specs.declared.device_part.DevicePart.{DevicePart}

@@ -1,14 +1,13 @@
 -- What contracts see of a response that was read, and of what its iterators have left.
-use Rattle.std.specs.Prelude.{ℕ, List, [], ◌++◌, Bool, is_some, Option, Some, None, option_map, unwrap_or, Result, Ok, Err}
+use Rattle.std.specs.Prelude.{ℕ, List, [], Bool, is_some, Option, Some, None, unwrap_or, Result, Ok, Err}
 use Rattle.cbor_view.specs.declared.items.Items.{Items}
 use Rattle.cbor_view.specs.declared.pairs.Pairs.{Pairs}
 use Rattle.cbor_view.specs.Items.{left}
 use Rattle.cbor_view.specs.Pairs.{pairs_left}
 use Rattle.cbor_view.specs.Parts.{Part}
-use Rattle.cbor_view.specs.View.{part}
 use Rattle.mdoc_outside.specs.OptionSteps.{each}
 use Rattle.doc_response.specs.ResponseParts.{namespace, error_of, errors_in}
-use Rattle.doc_response.specs.Response.{spread, spread_all, joined}
+use Rattle.doc_response.specs.Response.{spread, joined}
 
 -- the items of an array, and the pairs of a map, that may be missing
 abbrev pub items_or_none : Option Items → List Part

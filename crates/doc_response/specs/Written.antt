@@ -1,13 +1,13 @@
 -- The response as it is written (ISO/IEC 18013-5, 8.3.2.1.2.2 and 8.3.2.1.2.3): every head as short as it can be, the
 -- keys in the order of their tables.
-use Rattle.std.specs.Prelude.{ℕ, ◌==◌, if◌then◌else◌, List, [], ◌∷◌, ◌++◌, map, filter, not, Option, Some, None, codes}
+use Rattle.std.specs.Prelude.{ℕ, ◌==◌, if◌then◌else◌, List, [], ◌∷◌, ◌++◌, map, filter, not, Some, None, codes}
 use Rattle.mdoc_outside.specs.declared.key_name.KeyName.TheVariants as keys
 use Rattle.cbor_view.specs.Shortest.{array_bytes, text_bytes, uint_bytes}
 use Rattle.cbor_maps.specs.Writing.{Fields, named_map, encoded_bytes}
 use Rattle.cose_msgs.specs.Written.{sign1_bytes, mac0_bytes}
 use Rattle.doc_response.specs.declared.device_auth.DeviceAuth.{DeviceAuth}
 use Rattle.doc_response.specs.declared.device_auth.DeviceAuth.TheVariants.{Signature, Mac}
-use Rattle.doc_response.specs.Answered.{Answered, items_map, errors_map, document_error, is_empty, if_any}
+use Rattle.doc_response.specs.Answered.{items_map, errors_map, document_error, is_empty, if_any}
 use Rattle.doc_response.specs.Draft.{Document, Draft}
 
 -- DeviceAuth: a signature or a code, either detached from its payload (9.1.3.4)

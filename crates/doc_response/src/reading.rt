@@ -248,9 +248,7 @@ pub(crate) fn is_version(version: &str) -> bool
 }
 
 /// The version with the documents.
-fn read_versioned<'a>(
-    map: &NamedMap<'a>,
-) -> Result<(&'a str, ResponseDocs<'a>), ResponseFault>
+fn read_versioned<'a>(map: &NamedMap<'a>) -> Result<(&'a str, ResponseDocs<'a>), ResponseFault>
     ensures { Gives (λ r. (r.0.now, documents_left r.1)) result (versioned (whole_map map.now)) }
 {
     match (map.text(KeyName::Version), read_documents(map)) {
@@ -262,9 +260,7 @@ fn read_versioned<'a>(
 }
 
 /// The errors of document types with the status.
-fn read_outcome<'a>(
-    map: &NamedMap<'a>,
-) -> Result<(ResponseErrors<'a>, u64), ResponseFault>
+fn read_outcome<'a>(map: &NamedMap<'a>) -> Result<(ResponseErrors<'a>, u64), ResponseFault>
     ensures { Gives (λ r. (errors_left r.0, r.1)) result (outcome (whole_map map.now)) }
 {
     match (read_document_errors(map), map.uint(KeyName::Status)) {

@@ -5,7 +5,6 @@ use Rattle.cbor_view.specs.Shortest.{array_bytes, uint_bytes}
 use Rattle.cbor_maps.specs.Writing.{with_values}
 use Rattle.doc_response.specs.Answered.{document_error, if_any}
 use Rattle.doc_response.specs.AnsweredView.{text_seen}
-use Rattle.doc_response.specs.DraftView.{document_seen}
 use Rattle.doc_response.specs.Namespaces.{entries_of}
 use Rattle.doc_response.specs.Written.{document_bytes, full_fields, given, not_given}
 use Rattle.doc_response.proofs.PutFields.{map-put, any-count}

@@ -1,8 +1,8 @@
-use Rattle.std.proofs.Common.{◌≡◌, ℕ, ◌+◌, ◌-◌, ◌<◌, List, length, map, arith, ap, sym, subst, ◌∙◌}
+use Rattle.std.proofs.Common.{◌≡◌, ◌+◌, ◌-◌, ◌<◌, List, length, map, arith, ap, sym, subst, ◌∙◌}
 use Rattle.std.proofs.lemmas.List.{length-map}
 use Rattle.doc_response.specs.AnsweredView.{text_seen}
 use Rattle.doc_response.specs.DraftView.{document_seen}
-use Rattle.doc_response.specs.Draft.{Document, Draft, with_last, last_changed, and_missing}
+use Rattle.doc_response.specs.Draft.{Document, Draft, with_last, and_missing}
 use Rattle.doc_response.proofs.LastDocument.{last-set, on-ok}
 use Rattle.doc_response.proofs.response_draft.ResponseDraft.missing.Goals as goal
 
