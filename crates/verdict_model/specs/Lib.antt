@@ -1,0 +1,7 @@
+pub mod Documents
+pub mod Elements
+pub mod Issued
+pub mod Laws
+pub mod Shown
+pub mod Steps
+pub mod Verdict
