@@ -1,1 +1,2 @@
 mod AcceptedElements
+mod Sound

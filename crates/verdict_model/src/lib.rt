@@ -16,7 +16,7 @@ pub use doc_check::DocCheck;
 pub use doc_verdict::DocVerdict;
 pub use element_check::ElementCheck;
 pub use element_verdict::ElementVerdict;
-pub use laws::{accepted_is_requested, accepted_is_signed};
+pub use laws::{accepted_is_requested, accepted_is_signed, accepted_is_sound};
 pub use named::Named;
 pub use sharing::types_are_send_and_sync;
 pub use verdict::Verdict;
