@@ -1,20 +1,22 @@
 -- An engagement that was written is read as its point.
-use Rattle.std.proofs.Common.{◌≡◌, ◌<◌, ◌≤◌, ◌^◌, ℕ, true, false, pos, List, [], ◌∷◌, length, Option, Some, None, Ok, option_map, refl, ap, ◌∙◌, arith, codes, inl}
+use Rattle.std.proofs.Common.{◌≡◌, ◌<◌, ◌≤◌, ◌^◌, ℕ, true, false, pos, List, [], ◌∷◌, ◌++◌, length, Option, Some, None, Ok, option_map, refl, ap, ◌∙◌, arith, codes, inl}
 use Rattle.std.specs.Prelude.{IfSome}
+use Rattle.std.proofs.lemmas.List.{length-append}
 use Rattle.key_device.specs.declared.point.Point.{Point}
 use Rattle.cbor_view.specs.Parts.{Part}
 use Rattle.cbor_view.specs.Shortest.{array_bytes, boolean_bytes, bytes_bytes, text_bytes, uint_bytes}
 use Rattle.cbor_view.specs.Tree.{Unsigned, Bytes, Simple, Text}
 use Rattle.cbor_view.proofs.WrittenParts.{IsPiece, AllPieces, ArePieces, cbor-piece, items-written, piece-array, piece-shortest, tree-shortest}
-use Rattle.cbor_maps.specs.Labels.{LabelledFields, labelled, labelled_values, spelled_labels}
-use Rattle.cbor_maps.specs.Writing.{encoded_bytes}
+use Rattle.cbor_maps.specs.Labels.{LabelledFields, label_bytes, labelled, labelled_values, spelled_labels}
+use Rattle.cbor_maps.specs.Writing.{encoded_bytes, map_head}
 use Rattle.cbor_maps.specs.WrittenReads.{AreLabelled, SpellsItem}
 use Rattle.cbor_maps.proofs.LabelledMaps.{IsLabelled, no-label, piece-label, piece-labelled, piece-of-fields, under-label}
 use Rattle.cbor_maps.proofs.WrittenMaps.{encoded-again, piece-encoded, utf8-ascii}
 use Rattle.cose_msgs.specs.Key.{key_of}
 use Rattle.cose_msgs.specs.Written.{key_bytes, IsReadAs}
+use Rattle.cose_msgs.proofs.WrittenKeys.{IsPoint, key-read}
 use Rattle.engagement.specs.Engagement.{engagement, of_bytes, of_map, needed_security}
-use Rattle.engagement.specs.WrittenEngagement.{engagement_bytes, methods_bytes, options_bytes, security_bytes}
+use Rattle.engagement.specs.WrittenEngagement.{engagement_bytes, methods_bytes, options_bytes, security_bytes, WrittenIsRead}
 
 -- ---- its parts are items
 
@@ -136,3 +138,19 @@ map-read p uuid is =
 pub engagement-read : (p : Point) (uuid : Option (List ℕ)) → IsWritable p uuid → engagement (engagement_bytes p uuid) ≡ Ok p
 unfolding engagement
 engagement-read p uuid is = ap of_bytes (cbor-piece (engagement_bytes p uuid) (engagement-piece p uuid is)) ∙ map-read p uuid is
+
+-- ---- of every point
+
+key-short : (p : Point) → IsPoint p → length (key_bytes p) < 2 ^ 32
+unfolding key_bytes map_head label_bytes
+key-short p is =
+    let x = is.x in
+    let y = is.y in
+    let front = length-append p.x (34 ∷ []) in
+    let whole = length-append (p.x ++ (34 ∷ [])) (88 ∷ 32 ∷ p.y) in
+    rw (is.x, is.y) (omega arith)
+
+pub written-read : WrittenIsRead
+written-read p uuid x y short =
+    let is : IsPoint p = record { x = x; y = y } in
+    engagement-read p uuid (record { key = key-read p is; key_short = key-short p is; uuid_short = short })

@@ -12,7 +12,7 @@ mod written;
 
 pub use engage_fault::EngageFault;
 pub use engagement::Engagement;
-pub use laws::{uri_is_of_one_engagement, uri_is_read_back};
+pub use laws::{uri_is_of_one_engagement, uri_is_read_back, written_engagement_is_read};
 pub use uri::{from_uri, to_uri};
 pub use uri_fault::UriFault;
 pub use written::write_engagement;
