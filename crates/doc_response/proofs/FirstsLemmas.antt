@@ -1,8 +1,7 @@
 -- The first places of texts, found one by one.
-use Rattle.std.proofs.Common.{◌≡◌, ℕ, ◌+◌, ◌<◌, length, get_or, drop, add-one, drop-cons, Bool, true, false, not, ◌&&◌, ◌||◌, cond, List, [], ◌∷◌, ◌++◌, Decides, refl, sym, ap, ◌∙◌, append_assoc}
+use Rattle.std.proofs.Common.{◌≡◌, ℕ, ◌+◌, ◌<◌, length, get_or, drop, add-one, drop-cons, Bool, true, false, not, ◌&&◌, ◌||◌, cond, List, [], ◌∷◌, ◌++◌, refl, sym, ap, ◌∙◌, append_assoc}
 use Rattle.std.specs.Prelude.{filter}
 use Rattle.std.specs.Str.{bytes_eq}
-use Rattle.std.proofs.lemmas.List.{append-nil}
 use Rattle.std.proofs.lemmas.List.Folds.{list_any-append}
 use Rattle.std.proofs.lemmas.Slice.Eq.{bytes_eq-Decides}
 use Rattle.doc_response.specs.Answered.{has_text, firsts}
@@ -31,14 +30,6 @@ filter-alike p q (x ∷ xs) alike = rw (alike x, filter-alike p q xs alike) refl
 -- what holds where a text is equal to another
 equal-texts : (a b : List ℕ) → (bytes_eq a b ≡ true) → a ≡ b
 equal-texts a b e = (bytes_eq-Decides a b).0 e
-
-bytes_eq-comm : (a b : List ℕ) → bytes_eq a b ≡ bytes_eq b a
-bytes_eq-comm a b = both_ways (bytes_eq a b) (bytes_eq b a) (bytes_eq-Decides a b) (bytes_eq-Decides b a) where
-  both_ways : (p q : Bool) → Decides p (a ≡ b) → Decides q (b ≡ a) → p ≡ q
-  both_ways true true p q = refl
-  both_ways true false p q = sym (q.1 (sym (p.0 refl)))
-  both_ways false true p q = p.1 (sym (q.0 refl))
-  both_ways false false p q = refl
 
 -- a text that was found already is passed over
 found-alike : (found : List (List ℕ)) (text : List ℕ) → has_text text found ≡ true → (other : List ℕ) →
@@ -85,12 +76,9 @@ filter-all : {A : Type 0} (xs : List A) → filter (λ x. true) xs ≡ xs
 filter-all [] = refl
 filter-all (x ∷ xs) = rw (filter-all xs) refl
 
--- before the first text, and behind the last one
+-- before the first text
 pub more-start : (rest : List (List ℕ)) → more [] rest ≡ firsts rest
 more-start rest = filter-all (firsts rest)
-
-pub more-none : (found : List (List ℕ)) → more found [] ≡ found
-more-none found = append-nil found
 
 -- the texts from one on: it, and those behind it
 pub texts-drop : (list : List (Bor (List ℕ))) (i : ℕ) (d : Bor (List ℕ)) → i < length list →

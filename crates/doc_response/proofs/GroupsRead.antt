@@ -4,7 +4,7 @@ use Rattle.mdoc_outside.specs.OptionSteps.{each}
 use Rattle.cbor_view.specs.Parts.{Part, text_in}
 use Rattle.cbor_view.specs.Shortest.{array_bytes, map_bytes, text_bytes}
 use Rattle.cbor_view.specs.Tree.{Text}
-use Rattle.cbor_view.proofs.WrittenParts.{IsPiece, AllPieces, ArePieces, entries_from, items-written, items_begin, pairs-written, pairs_begin, parts_from, piece-array, piece-map, piece-shortest, tree-shortest}
+use Rattle.cbor_view.proofs.WrittenParts.{IsPiece, AllPieces, ArePieces, entries_from, items-written, items_begin, pairs-written, pairs_begin, parts_from, piece-array, piece-shortest, tree-shortest}
 use Rattle.doc_response.specs.Answered.{namespace_entry}
 use Rattle.doc_response.specs.ResponseParts.{namespace, namespaces_in}
 use Rattle.doc_response.specs.WrittenReads.{IsText}
@@ -75,6 +75,3 @@ map-read at d groups are h few =
       is = rw (pairs-written (d + 1) entries at (group-pieces d groups are) (omega arith) few) g.is;
       same = g.same;
     }
-
-pub map-piece : (d : ℕ) (groups : List Group) → AreGroups d groups → length (map namespace_entry groups) < 2 ^ 32 → IsPiece (d + 1 + 1) (map_bytes (map namespace_entry groups))
-map-piece d groups are few = piece-map (d + 1) (map namespace_entry groups) (group-pieces d groups are) few

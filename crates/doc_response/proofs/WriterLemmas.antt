@@ -3,7 +3,7 @@ use Rattle.std.proofs.Common.{◌≡◌, ℕ, suc, Bool, true, false, cond, List
 use Rattle.std.specs.Prelude.{filter, flat_map}
 use Rattle.std.specs.Str.{bytes_eq}
 use Rattle.std.proofs.lemmas.List.{length-map}
-use Rattle.cbor_view.specs.Shortest.{shortest_head, text_bytes, map_bytes}
+use Rattle.cbor_view.specs.Shortest.{shortest_head, text_bytes}
 use Rattle.doc_response.specs.Answered.{of_namespace, namespace_entry, errors_entry, error_entry}
 use Rattle.doc_response.specs.Namespaces.{entry_bytes}
 use Rattle.doc_response.specs.Namespaces.{count_of_text}
@@ -39,15 +39,6 @@ errors_written old ns with_text with_head now count names text_is head_is now_is
     ∙ ap (λ (h : List ℕ). h ++ flat_map entry_bytes (map error_entry names)) (head_is ∙ ap (λ (t : List ℕ). t ++ shortest_head 5 count) text_is)
     ∙ ap (λ (n : ℕ). ((old ++ text_bytes ns) ++ shortest_head 5 n) ++ flat_map entry_bytes (map error_entry names)) count_is
     ∙ errors_bytes old ns names
-
--- entries of a map one behind the other, from what each call leaves
-pub map_written : (old with_head now : List ℕ) (count : ℕ) (entries : List (List ℕ × List ℕ)) →
-    with_head ≡ old ++ shortest_head 5 count → now ≡ with_head ++ flat_map entry_bytes entries → count ≡ length entries → now ≡ old ++ map_bytes entries
-map_written old with_head now count entries head_is now_is count_is =
-    now_is
-    ∙ ap (λ (h : List ℕ). h ++ flat_map entry_bytes entries) head_is
-    ∙ ap (λ (n : ℕ). (old ++ shortest_head 5 n) ++ flat_map entry_bytes entries) count_is
-    ∙ append_assoc old (shortest_head 5 (length entries)) (flat_map entry_bytes entries)
 
 -- the pairs of a namespace are as many as its name among the namespaces of all pairs
 pub counted : (pairs : List (List ℕ × List ℕ)) (ns : List ℕ) →
