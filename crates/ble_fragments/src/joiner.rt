@@ -10,7 +10,7 @@ ghost use Rattle.ble_fragments.specs.Parts.{part};
 use crate::part::{Part, part_of};
 use crate::{Ending, Fed, JoinFault};
 use mdoc_outside::{Fragment, Octets};
-use std::alloc::Global;
+use std::alloc::{AllocError, Global};
 use std::marker::Model;
 use std::mem;
 
@@ -106,6 +106,20 @@ impl Joiner {
         self.count >= MOST_FRAGMENTS || self.bytes.len().saturating_add(piece.len()) > MOST_BYTES
     }
 
+    // Makes room for so many further bytes: twice the room that there was, but for no more than a message may have. So a
+    // joiner that grows holds at most twice the bytes of the longest message.
+    fn make_room(&mut self, more: usize) -> Result<(), AllocError>
+        ensures { self.new ≡ self.old }
+    {
+        let room = self.bytes.capacity();
+        let wanted = self.bytes.len().saturating_add(more);
+        if wanted <= room {
+            return Ok(());
+        }
+        let next = room.saturating_mul(2).min(MOST_BYTES).max(wanted);
+        self.bytes.reserve_exact(next - self.bytes.len())
+    }
+
     // Adds a piece to the message that is not whole yet.
     #[tactic(auto, using(crate::proofs::Limits::below_most))]
     fn add(&mut self, piece: &[u8], is_last: bool) -> Result<Fed, JoinFault>
@@ -118,6 +132,9 @@ impl Joiner {
             self.ending = Ending::Bad(JoinFault::TooLong);
             return Err(JoinFault::TooLong);
         }
+        let Ok(()) = self.make_room(piece.len()) else {
+            return Err(JoinFault::Memory);
+        };
         let Ok(()) = self.bytes.extend_from_slice(piece) else {
             return Err(JoinFault::Memory);
         };
