@@ -1,4 +1,4 @@
--- The keys of a session (ISO/IEC 18013-5, 9.1.1.5 and 9.1.3.5): derived by HKDF over SHA-256 (RFC 5869) of a secret
+-- The keys of a session (ISO/IEC 18013-5, 9.1.1.5): derived by HKDF over SHA-256 (RFC 5869) of a secret
 -- that both ends agree on, with the digest of SessionTranscriptBytes as the salt and a name for their use.
 use Rattle.std.specs.Prelude.{ℕ, List, codes}
 use Rattle.sha2.specs.Sha256.{sha256}
@@ -22,7 +22,3 @@ keys_by_salt secret salt = record { device = derived (codes "SKDevice") secret s
 
 abbrev pub keys : List ℕ → List ℕ → Keys
 keys secret transcript = keys_by_salt secret (salt transcript)
-
--- EMacKey, of the secret that the device key and the reader's key agree on
-abbrev pub mac_key : List ℕ → List ℕ → List ℕ
-mac_key secret transcript = derived (codes "EMacKey") secret (salt transcript)

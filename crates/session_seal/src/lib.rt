@@ -43,7 +43,6 @@ pub use reader_ready::ReaderReady;
 pub use reader_waiting::ReaderWaiting;
 pub use session_data::SessionData;
 pub use session_establishment::SessionEstablishment;
-pub use session_keys::mac_key;
 pub use session_status::SessionStatus;
 pub use sharing::types_are_send;
 pub use stop::Stop;

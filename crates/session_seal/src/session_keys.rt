@@ -1,7 +1,7 @@
 //! The keys of a session.
 
 ghost use Rattle.std.specs.Prelude.{◌≡◌, IfOk};
-ghost use Rattle.session_seal.specs.Keys.{derived, keys_by_salt, mac_key, salt};
+ghost use Rattle.session_seal.specs.Keys.{derived, keys_by_salt, salt};
 
 use aes_gcm::Key256;
 use cose_msgs::write_transcript_bytes;
@@ -47,15 +47,6 @@ pub(crate) fn salt(alloc: Global, transcript: &[u8]) -> Result<[u8; 32], Memory>
 {
     let bytes = write_transcript_bytes(alloc, transcript)?;
     Ok(Sha256::digest(bytes.as_slice()))
-}
-
-/// The key EMacKey of a device's authentication by MAC (ISO/IEC 18013-5, 9.1.3.5), from the secret that the
-/// device's key and the reader's ephemeral key agree on, and SessionTranscript.
-pub fn mac_key(alloc: Global, secret: &[u8; 32], transcript: &[u8]) -> Result<[u8; 32], Memory>
-    ensures { IfOk result (λ key. key ≡ mac_key secret.now transcript.now) }
-{
-    let salt = salt(alloc, transcript)?;
-    Ok(derived(b"EMacKey", secret, &salt))
 }
 
 /// 32 bytes for a use that has this name.
