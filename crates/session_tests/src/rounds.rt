@@ -4,9 +4,10 @@ use crate::ends::{
     Answered, Ends, Requested, Toy, agreed, both_ends, first_request, next_answer, next_request,
     request_opened,
 };
+use doc_response::mac_key;
 use key_device::Told;
 use mdoc_outside::Octets;
-use session_seal::{ReaderReady, WalletAsked, WalletOpen, mac_key};
+use session_seal::{ReaderReady, WalletAsked, WalletOpen};
 use std::alloc::Global;
 use std::test::*;
 
