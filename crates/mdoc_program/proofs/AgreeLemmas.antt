@@ -9,13 +9,13 @@ use Rattle.doc_store.specs.Store.{Document, Store}
 use Rattle.doc_store.specs.Held.{held, document_place, chosen, Place, place_at, place_of, item_at}
 use Rattle.doc_store.specs.Agreement.{Agree}
 use Rattle.doc_store.proofs.AgreeLemmas.{same_places, same_presence}
+use Rattle.consent.specs.Rules.{approved}
+use Rattle.consent.specs.Wish.{Wanted}
+use Rattle.consent.specs.declared.rule.Rule.{Rule}
+use Rattle.doc_request.specs.declared.doc_draft.DocDraft.{DocDraft}
+use Rattle.doc_request.specs.declared.wish_draft.WishDraft.{WishDraft}
 use Rattle.mdoc_program.specs.Core.{Answered, item_given, is_missing, full_name, answered, core_bytes, core}
 use Rattle.mdoc_program.specs.Released.{wanted_of, wishes_in, shown_copy, answer, released_place, released_places}
-use Rattle.mdoc_program.specs.Rules.{approved}
-use Rattle.mdoc_program.specs.Wish.{Wanted}
-use Rattle.mdoc_program.specs.declared.doc_draft.DocDraft.{DocDraft}
-use Rattle.mdoc_program.specs.declared.rule.Rule.{Rule}
-use Rattle.mdoc_program.specs.declared.wish_draft.WishDraft.{WishDraft}
 
 -- ---- lists whose elements are alike
 

@@ -3,6 +3,8 @@ use Rattle.std.proofs.Common.{◌≡◌, ℕ, true, List, [], ◌∷◌, Option,
 use Rattle.std.specs.Prelude.{codes, unwrap_or}
 use Rattle.doc_store.specs.Agreement.{Agree, FilesAgree}
 use Rattle.doc_store.specs.Store.{Store, store}
+use Rattle.consent.specs.declared.rule.Rule.{Rule}
+use Rattle.doc_request.specs.declared.doc_draft.DocDraft.{DocDraft}
 use Rattle.mdoc_program.specs.Agreeing.{Agreeing, IsStoreFile, store_found, with_store}
 use Rattle.mdoc_program.specs.Commands.{outcome}
 use Rattle.mdoc_program.specs.Content.{Content, OfRules, OfStore, OfWishes, content_of, store_file}
@@ -14,9 +16,7 @@ use Rattle.mdoc_program.specs.Printed.{core_line}
 use Rattle.mdoc_program.specs.Released.{released_places}
 use Rattle.mdoc_program.specs.declared.command.Command.{Command}
 use Rattle.mdoc_program.specs.declared.command.Command.TheVariants.{Draft}
-use Rattle.mdoc_program.specs.declared.doc_draft.DocDraft.{DocDraft}
 use Rattle.mdoc_program.specs.declared.role.Role.TheVariants as roles
-use Rattle.mdoc_program.specs.declared.rule.Rule.{Rule}
 use Rattle.mdoc_program.specs.declared.status.Status.{Status}
 use Rattle.mdoc_program.proofs.AgreeLemmas.{core_same}
 use Rattle.mdoc_program.proofs.OrderLemmas.{draft_files_named, given}

@@ -6,13 +6,13 @@ use Rattle.std.proofs.lemmas.List.{append-nil, map_push, map_more}
 use Rattle.doc_store.specs.Held.{IsAt, document_place, chosen}
 use Rattle.doc_store.specs.Store.{Copy, Document, Store}
 use Rattle.mdoc_outside.specs.OptionSteps.{◌>>=◌}
+use Rattle.consent.specs.Wish.{Wanted}
+use Rattle.consent.specs.declared.rule.Rule.{Rule}
+use Rattle.doc_request.specs.declared.doc_draft.DocDraft.{DocDraft}
+use Rattle.doc_request.specs.declared.wish_draft.WishDraft.{WishDraft}
 use Rattle.mdoc_program.specs.AnsweredDocument.{with_answer}
 use Rattle.mdoc_program.specs.Core.{Answered, item_given, is_missing, full_name, with_namespace, answered, answered_with}
 use Rattle.mdoc_program.specs.Released.{answer, shown_copy, wanted_of, wishes_in}
-use Rattle.mdoc_program.specs.Wish.{Wanted}
-use Rattle.mdoc_program.specs.declared.doc_draft.DocDraft.{DocDraft}
-use Rattle.mdoc_program.specs.declared.rule.Rule.{Rule}
-use Rattle.mdoc_program.specs.declared.wish_draft.WishDraft.{WishDraft}
 
 -- no copy is shown where there is no document of the type
 pub shown_absent : (documents : Store) (doc_type : List ℕ) → document_place documents doc_type ≡ None → None ≡ shown_copy documents doc_type

@@ -11,17 +11,16 @@ use Rattle.issuer_items.specs.Item.{Item}
 use Rattle.doc_store.specs.Item.{item}
 use Rattle.doc_store.specs.Store.{Copy, Store}
 use Rattle.mdoc_outside.specs.OptionSteps.{◌>>=◌}
+use Rattle.consent.specs.Rules.{approved}
+use Rattle.consent.specs.Wish.{Wanted}
+use Rattle.consent.specs.declared.rule.Rule.{Rule}
+use Rattle.doc_request.specs.Draft.{are_distinct, is_same_element}
+use Rattle.doc_request.specs.declared.doc_draft.DocDraft.{DocDraft}
+use Rattle.doc_request.specs.declared.wish_draft.WishDraft.{WishDraft}
 use Rattle.mdoc_program.specs.Core.{item_given, is_missing, full_name, with_namespace, has_text, firsts, of_namespace, grouped}
 use Rattle.mdoc_program.specs.Exact.{IsReleasedFor, IsRefused, IsReleased, IsMissing, StandsOnce, is_of_namespace, OnlyReleased, EachReleasedOnce, OnlyMissing, EachMissingOnce}
 use Rattle.mdoc_program.specs.Released.{answer, shown_copy, wanted_of, wishes_in}
-use Rattle.mdoc_program.specs.Request.{are_distinct}
-use Rattle.mdoc_program.specs.Rules.{approved}
 use Rattle.mdoc_program.specs.Texts.{count_of_text}
-use Rattle.mdoc_program.specs.Wish.{Wanted}
-use Rattle.mdoc_program.specs.Wishes.{is_same_element}
-use Rattle.mdoc_program.specs.declared.doc_draft.DocDraft.{DocDraft}
-use Rattle.mdoc_program.specs.declared.rule.Rule.{Rule}
-use Rattle.mdoc_program.specs.declared.wish_draft.WishDraft.{WishDraft}
 
 -- ---- texts
 

@@ -9,12 +9,12 @@ use Rattle.mdoc_outside.specs.ResultSteps.{◌>>=◌}
 use Rattle.mdoc_outside.specs.declared.limit_name.LimitName.TheVariants.{FileBytes}
 use Rattle.mdoc_outside.specs.declared.sink_call.SinkCall.{SinkCall}
 use Rattle.mdoc_outside.specs.declared.sink_call.SinkCall.TheVariants.{Put}
+use Rattle.consent.specs.Rules.{rules_of}
 use Rattle.mdoc_program.specs.Commands.{outcome, work_of}
 use Rattle.mdoc_program.specs.Content.{Content, StoreFile, check_status, form, content_of, or_bad_line, or_status, store_file, without_fault}
 use Rattle.mdoc_program.specs.Exactly.{AtFirst, CabinetExactly, DoneOnlyOpened, DonePrintsAll, FormExactly, IsAbsent, IsRefused, LimitExactly, MissingExactly}
 use Rattle.mdoc_program.specs.Order.{Order}
 use Rattle.mdoc_program.specs.Outcome.{Answer, Failed, FileName, Found, Outcome, after_reads, files_named, if_opened}
-use Rattle.mdoc_program.specs.Rules.{rules_of}
 use Rattle.mdoc_program.specs.Run.{AreOpened, End, FileFailed, IsComplete, LineFailed, Stop, Wanting, put_calls, status_at}
 use Rattle.mdoc_program.specs.Wishes.{wishes_of}
 use Rattle.mdoc_program.specs.declared.file_fault.FileFault.{FileFault}

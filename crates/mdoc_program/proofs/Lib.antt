@@ -2,7 +2,6 @@ pub mod AgreeLemmas
 pub mod AgreeingLemmas
 pub mod AnsweringLemmas
 pub mod CoreWritten
-pub mod EachLine
 pub mod ExactLemmas
 pub mod ExactlyLemmas
 pub mod FileFaults

@@ -10,14 +10,14 @@ use Rattle.doc_store.specs.Agreement.{Agree, outline}
 use Rattle.doc_store.specs.Held.{Place, item_at, place_of}
 use Rattle.doc_store.specs.Store.{Copy, Store}
 use Rattle.doc_store.proofs.AgreeLemmas.{same_places, same_presence}
+use Rattle.consent.specs.Rules.{approved}
+use Rattle.consent.specs.Wish.{Wanted}
+use Rattle.consent.specs.declared.rule.Rule.{Rule}
+use Rattle.doc_request.specs.declared.doc_draft.DocDraft.{DocDraft}
+use Rattle.doc_request.specs.declared.wish_draft.WishDraft.{WishDraft}
 use Rattle.mdoc_program.specs.Core.{answered, item_given, with_namespace}
 use Rattle.mdoc_program.specs.Released.{answer, released, released_place, released_places, shown_copy, wanted_of, wishes_in}
 use Rattle.mdoc_program.specs.ReleasedExactly.{items_in, core_items, released_of, CoreIsReleased, PlacesAreOfCore, AgreementIsLeast}
-use Rattle.mdoc_program.specs.Rules.{approved}
-use Rattle.mdoc_program.specs.Wish.{Wanted}
-use Rattle.mdoc_program.specs.declared.doc_draft.DocDraft.{DocDraft}
-use Rattle.mdoc_program.specs.declared.rule.Rule.{Rule}
-use Rattle.mdoc_program.specs.declared.wish_draft.WishDraft.{WishDraft}
 use Rattle.mdoc_program.proofs.AgreeLemmas.{answer-place, answers_same}
 
 -- ---- the items of the core

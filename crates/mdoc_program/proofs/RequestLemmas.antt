@@ -10,14 +10,14 @@ use Rattle.std.proofs.lemmas.List.Sums.{sum_by-append}
 use Rattle.std.proofs.lemmas.Slice.Eq.{bytes_eq-Decides}
 use Rattle.mdoc_outside.specs.Lines.{Line, words}
 use Rattle.mdoc_outside.specs.ResultSteps.{◌>>=◌}
-use Rattle.mdoc_program.specs.Request.{IsName, IsWish, AreWishes, IsDocument, IsRequest, are_distinct}
+use Rattle.doc_request.specs.Draft.{IsName, IsWish, AreWishes, IsDocument, IsRequest, are_distinct, wish_count, is_same_element}
+use Rattle.doc_request.specs.declared.doc_draft.DocDraft.{DocDraft}
+use Rattle.doc_request.specs.declared.wish_draft.WishDraft.{WishDraft}
 use Rattle.mdoc_program.specs.WishLine.{wish_line}
-use Rattle.mdoc_program.specs.Wishes.{Progress, at_start, wish_count, is_same_element, with_current, complete_documents, with_document, refusal, unless, with_want_in, with_line, one_or_more, read_on, wishes_of}
-use Rattle.mdoc_program.specs.declared.doc_draft.DocDraft.{DocDraft}
+use Rattle.mdoc_program.specs.Wishes.{Progress, at_start, with_current, complete_documents, with_document, refusal, unless, with_want_in, with_line, one_or_more, read_on, wishes_of}
 use Rattle.mdoc_program.specs.declared.file_fault.FileFault.{FileFault}
 use Rattle.mdoc_program.specs.declared.file_fault.FileFault.TheVariants as fault
 use Rattle.mdoc_outside.specs.declared.limit_name.LimitName.TheVariants.{Documents}
-use Rattle.mdoc_program.specs.declared.wish_draft.WishDraft.{WishDraft}
 use Rattle.mdoc_program.specs.declared.wish_line.WishLine.{WishLine}
 use Rattle.mdoc_program.specs.declared.wish_line.WishLine.TheVariants.{Document, Want}
 use Rattle.mdoc_program.proofs.WishNames.{Says, wish_line-Says}

@@ -6,13 +6,13 @@ use Rattle.mdoc_outside.specs.ResultSteps.{◌>>=◌}
 use Rattle.mdoc_outside.specs.State.{State}
 use Rattle.mdoc_outside.specs.declared.limit_name.LimitName.TheVariants.{FileBytes}
 use Rattle.mdoc_outside.specs.declared.sink_call.SinkCall.{SinkCall}
+use Rattle.doc_request.specs.Draft.{IsRequest}
+use Rattle.doc_request.specs.declared.doc_draft.DocDraft.{DocDraft}
 use Rattle.mdoc_program.specs.Content.{Content, OfWishes, form, content_of, or_status}
 use Rattle.mdoc_program.specs.Outcome.{FileName}
-use Rattle.mdoc_program.specs.Request.{IsRequest}
 use Rattle.mdoc_program.specs.Steps.{Gives, ReadsOn}
 use Rattle.mdoc_program.specs.Wishes.{wishes_of}
 use Rattle.mdoc_program.specs.World.{World, world}
-use Rattle.mdoc_program.specs.declared.doc_draft.DocDraft.{DocDraft}
 use Rattle.mdoc_program.specs.declared.file_fault.FileFault.{FileFault}
 use Rattle.mdoc_program.specs.declared.role.Role.TheVariants as roles
 use Rattle.mdoc_program.specs.declared.status.Status.TheVariants.{Limit}

@@ -9,8 +9,8 @@ use Rattle.std.proofs.lemmas.Str.{IsUtf8-from_ascii}
 use Rattle.std.proofs.lemmas.Str.Ascii.{IsAscii-nil, IsAscii-cons}
 use Rattle.mdoc_outside.specs.OptionSteps.{◌>>=◌}
 use Rattle.mdoc_outside.specs.WordForm.{is_word, is_name}
-use Rattle.mdoc_program.specs.Request.{IsName, IsWish}
-use Rattle.mdoc_program.specs.Rule.{flag_of}
+use Rattle.consent.specs.Rule.{flag_of}
+use Rattle.doc_request.specs.Draft.{IsName, IsWish}
 use Rattle.mdoc_program.specs.WishLine.{wish_line, document_line, want_line, name_of}
 use Rattle.mdoc_program.specs.declared.wish_line.WishLine.{WishLine}
 use Rattle.mdoc_program.specs.declared.wish_line.WishLine.TheVariants.{Document, Want}

@@ -1,7 +1,7 @@
 -- What contracts see of the answer to a document that is asked for.
 use Rattle.std.specs.Prelude.{ℕ, List, [], ◌∷◌, ◌++◌, map, Option, Some, None}
+use Rattle.consent.specs.Wish.{Wanted}
 use Rattle.mdoc_program.specs.Core.{Answered, with_namespace, full_name}
-use Rattle.mdoc_program.specs.Wish.{Wanted}
 use Rattle.mdoc_program.specs.declared.answered.AnsweredDocument.{AnsweredDocument}
 use Rattle.mdoc_program.specs.declared.answered.MissingElement.{MissingElement}
 use Rattle.mdoc_program.specs.declared.answered.ReleasedItem.{ReleasedItem}

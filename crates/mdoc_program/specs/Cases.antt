@@ -1,12 +1,12 @@
 -- Worked cases, with bytes that were written out by hand.
 use Rattle.std.specs.Prelude.{◌≡◌, ℕ, List, [], ◌∷◌, true, false, None, codes, IsSomeAnd}
 use Rattle.doc_store.specs.Store.{store}
+use Rattle.consent.specs.declared.reader_pattern.ReaderPattern.TheVariants as readers
+use Rattle.consent.specs.declared.rule.Rule.{Rule}
+use Rattle.consent.specs.declared.text_pattern.TextPattern.TheVariants as texts
+use Rattle.doc_request.specs.declared.doc_draft.DocDraft.{DocDraft}
+use Rattle.doc_request.specs.declared.wish_draft.WishDraft.{WishDraft}
 use Rattle.mdoc_program.specs.Core.{core}
-use Rattle.mdoc_program.specs.declared.doc_draft.DocDraft.{DocDraft}
-use Rattle.mdoc_program.specs.declared.reader_pattern.ReaderPattern.TheVariants as readers
-use Rattle.mdoc_program.specs.declared.rule.Rule.{Rule}
-use Rattle.mdoc_program.specs.declared.text_pattern.TextPattern.TheVariants as texts
-use Rattle.mdoc_program.specs.declared.wish_draft.WishDraft.{WishDraft}
 
 -- a store with one document of type `d`, whose one copy holds an item of namespace `n` with number 0, salt 01, name `a` and value "x"
 abbrev pub one_item : List ℕ

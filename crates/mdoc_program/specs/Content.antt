@@ -7,15 +7,15 @@ use Rattle.doc_store.specs.declared.first_fault.Fault.{Fault}
 use Rattle.doc_store.specs.declared.store_check.StoreCheck.{StoreCheck}
 use Rattle.doc_store.specs.declared.store_check.StoreCheck.TheVariants as stores
 use Rattle.mdoc_outside.specs.declared.limit_name.LimitName.TheVariants.{FileBytes}
-use Rattle.mdoc_program.specs.Rules.{rules_of}
+use Rattle.consent.specs.Rules.{rules_of}
+use Rattle.consent.specs.declared.rule.Rule.{Rule}
+use Rattle.doc_request.specs.declared.doc_draft.DocDraft.{DocDraft}
 use Rattle.mdoc_program.specs.Wishes.{wishes_of}
-use Rattle.mdoc_program.specs.declared.doc_draft.DocDraft.{DocDraft}
 use Rattle.mdoc_program.specs.declared.file_fault.FileFault.{FileFault}
 use Rattle.mdoc_program.specs.declared.file_fault.FileFault.TheVariants as faults
 use Rattle.mdoc_program.specs.declared.form_check.FormCheck.TheVariants as checks
 use Rattle.mdoc_program.specs.declared.role.Role.{Role}
 use Rattle.mdoc_program.specs.declared.role.Role.TheVariants as roles
-use Rattle.mdoc_program.specs.declared.rule.Rule.{Rule}
 use Rattle.mdoc_program.specs.declared.status.Status.{Status}
 use Rattle.mdoc_program.specs.declared.status.Status.TheVariants.{Missing, Form, Limit, Memory}
 

@@ -4,10 +4,10 @@ use Rattle.std.specs.List.{list_any}
 use Rattle.std.specs.Str.{bytes_eq}
 use Rattle.cbor_view.specs.Shortest.{uint_bytes, text_bytes, array_bytes, map_bytes}
 use Rattle.doc_store.specs.Store.{Copy, Store}
-use Rattle.mdoc_program.specs.Wish.{Wanted}
+use Rattle.consent.specs.Wish.{Wanted}
+use Rattle.consent.specs.declared.rule.Rule.{Rule}
+use Rattle.doc_request.specs.declared.doc_draft.DocDraft.{DocDraft}
 use Rattle.mdoc_program.specs.Released.{wishes_in, shown_copy, answer}
-use Rattle.mdoc_program.specs.declared.rule.Rule.{Rule}
-use Rattle.mdoc_program.specs.declared.doc_draft.DocDraft.{DocDraft}
 
 -- What a document that is asked for is answered with: the released items, each with its namespace, and the
 -- wishes that aren't released, each by namespace and name. A denied wish and one that isn't held are alike.

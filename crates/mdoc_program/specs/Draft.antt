@@ -1,14 +1,14 @@
 -- The command `draft`: the line that it prints of a store, wishes and rules.
 use Rattle.std.specs.Prelude.{ℕ, List, [], ◌∷◌, None}
 use Rattle.doc_store.specs.Store.{Store}
+use Rattle.consent.specs.declared.rule.Rule.{Rule}
+use Rattle.doc_request.specs.declared.doc_draft.DocDraft.{DocDraft}
 use Rattle.mdoc_program.specs.Content.{Content, OfStore, OfWishes, OfRules, StoreFile}
 use Rattle.mdoc_program.specs.Core.{core}
 use Rattle.mdoc_program.specs.Outcome.{FileName, Outcome, only_status}
 use Rattle.mdoc_program.specs.Printed.{core_line}
 use Rattle.mdoc_program.specs.Released.{released_places}
-use Rattle.mdoc_program.specs.declared.doc_draft.DocDraft.{DocDraft}
 use Rattle.mdoc_program.specs.declared.role.Role.TheVariants as roles
-use Rattle.mdoc_program.specs.declared.rule.Rule.{Rule}
 use Rattle.mdoc_program.specs.declared.status.Status.TheVariants.{Done, Memory}
 
 -- its files, by their names

@@ -3,14 +3,14 @@ use Rattle.std.specs.Prelude.{◌≡◌, ℕ, List, [], ◌∷◌, filter, Bool,
 use Rattle.std.specs.Str.{bytes_eq}
 use Rattle.doc_store.specs.Held.{held}
 use Rattle.doc_store.specs.Store.{Copy, Store}
+use Rattle.consent.specs.Rules.{approved}
+use Rattle.consent.specs.Wish.{Wanted}
+use Rattle.consent.specs.declared.rule.Rule.{Rule}
+use Rattle.doc_request.specs.Draft.{are_distinct}
+use Rattle.doc_request.specs.declared.doc_draft.DocDraft.{DocDraft}
 use Rattle.mdoc_program.specs.Core.{answered, grouped}
 use Rattle.mdoc_program.specs.Released.{wishes_in, shown_copy}
-use Rattle.mdoc_program.specs.Request.{are_distinct}
-use Rattle.mdoc_program.specs.Rules.{approved}
 use Rattle.mdoc_program.specs.Texts.{count_of_text}
-use Rattle.mdoc_program.specs.Wish.{Wanted}
-use Rattle.mdoc_program.specs.declared.doc_draft.DocDraft.{DocDraft}
-use Rattle.mdoc_program.specs.declared.rule.Rule.{Rule}
 
 -- A stored item is released for a wish: the wish is one of those asked, the rules allow it, and the copy that the
 -- store shows holds the item under the wish's namespace and name.

@@ -10,7 +10,6 @@ pub mod Entry
 pub mod Exact
 pub mod Exactly
 pub mod FileFault
-pub mod Grammar
 pub mod Number
 pub mod OpenDocument
 pub mod Order
@@ -20,15 +19,11 @@ pub mod Printed
 pub mod Progress
 pub mod Released
 pub mod ReleasedExactly
-pub mod Request
 pub mod Row
-pub mod Rule
-pub mod Rules
 pub mod Run
 pub mod Status
 pub mod Steps
 pub mod Texts
-pub mod Wish
 pub mod WishLine
 pub mod Wishes
 pub mod WordCases

@@ -1,6 +1,6 @@
 -- What contracts see of the document of a wishes file whose wishes are being read.
 use Rattle.std.specs.Prelude.{ℕ, length, Option, Some, None}
-use Rattle.mdoc_program.specs.declared.doc_draft.DocDraft.{DocDraft}
+use Rattle.doc_request.specs.declared.doc_draft.DocDraft.{DocDraft}
 use Rattle.mdoc_program.specs.declared.open_document.OpenDocument.{OpenDocument}
 
 abbrev pub open_document : OpenDocument → DocDraft

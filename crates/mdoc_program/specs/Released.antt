@@ -3,11 +3,11 @@ use Rattle.std.specs.Prelude.{ℕ, List, map, filter_map, flat_map, Option, Some
 use Rattle.doc_store.specs.Store.{Copy, Store}
 use Rattle.doc_store.specs.Held.{held, document_place, chosen, Place, place_of, item_at}
 use Rattle.mdoc_outside.specs.OptionSteps.{◌>>=◌}
-use Rattle.mdoc_program.specs.Rules.{approved}
-use Rattle.mdoc_program.specs.Wish.{Wanted}
-use Rattle.mdoc_program.specs.declared.rule.Rule.{Rule}
-use Rattle.mdoc_program.specs.declared.doc_draft.DocDraft.{DocDraft}
-use Rattle.mdoc_program.specs.declared.wish_draft.WishDraft.{WishDraft}
+use Rattle.consent.specs.Rules.{approved}
+use Rattle.consent.specs.Wish.{Wanted}
+use Rattle.consent.specs.declared.rule.Rule.{Rule}
+use Rattle.doc_request.specs.declared.doc_draft.DocDraft.{DocDraft}
+use Rattle.doc_request.specs.declared.wish_draft.WishDraft.{WishDraft}
 
 abbrev pub wanted_of : List ℕ → WishDraft → Wanted
 wanted_of doc_type wish = record { doc_type = doc_type; ns = wish.ns; name = wish.name; retain = wish.retain }

@@ -3,10 +3,10 @@ use Rattle.std.specs.Prelude.{◌≡◌, ℕ, List, map, flat_map, Option, Some,
 use Rattle.doc_store.specs.Agreement.{Agree, outline}
 use Rattle.doc_store.specs.Held.{item_at}
 use Rattle.doc_store.specs.Store.{Store}
+use Rattle.consent.specs.declared.rule.Rule.{Rule}
+use Rattle.doc_request.specs.declared.doc_draft.DocDraft.{DocDraft}
 use Rattle.mdoc_program.specs.Core.{Answered, answered}
 use Rattle.mdoc_program.specs.Released.{wishes_in, shown_copy, released, released_places}
-use Rattle.mdoc_program.specs.declared.rule.Rule.{Rule}
-use Rattle.mdoc_program.specs.declared.doc_draft.DocDraft.{DocDraft}
 
 abbrev pub items_in : Answered → List (List ℕ)
 items_in document = map (λ (pair : List ℕ × List ℕ). pair.1) document.items

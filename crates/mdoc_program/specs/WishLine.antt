@@ -3,7 +3,7 @@ use Rattle.std.specs.Prelude.{ℕ, List, [], ◌∷◌, Option, Some, None, code
 use Rattle.std.specs.Str.{bytes_eq}
 use Rattle.mdoc_outside.specs.OptionSteps.{◌>>=◌}
 use Rattle.mdoc_outside.specs.WordForm.{is_name}
-use Rattle.mdoc_program.specs.Rule.{flag_of}
+use Rattle.consent.specs.Rule.{flag_of}
 use Rattle.mdoc_program.specs.declared.wish_line.WishLine.{WishLine}
 use Rattle.mdoc_program.specs.declared.wish_line.WishLine.TheVariants.{Document, Want}
 

@@ -1,18 +1,18 @@
 -- A wishes file: the documents that a reader asks for, and of each the elements that it wants.
-use Rattle.std.specs.Prelude.{ℕ, ◌+◌, nat_lt, nat_le, max, List, [], ◌∷◌, ◌++◌, length, Bool, ◌&&◌, Option, Some, None, Result, Ok, Err, if◌then◌else◌}
-use Rattle.std.specs.List.{list_any, sum_by}
-use Rattle.std.specs.Str.{bytes_eq}
+use Rattle.std.specs.Prelude.{ℕ, ◌+◌, nat_lt, nat_le, max, List, [], ◌∷◌, ◌++◌, length, Option, Some, None, Result, Ok, Err, if◌then◌else◌}
+use Rattle.std.specs.List.{list_any}
 use Rattle.mdoc_outside.specs.Lines.{Line, file_lines, words}
 use Rattle.mdoc_outside.specs.ResultSteps.{◌>>=◌}
 use Rattle.std.specs.Str.Lines.{lines}
 use Rattle.mdoc_outside.specs.declared.limit_name.LimitName.TheVariants.{Documents, Wishes}
+use Rattle.doc_request.specs.Draft.{wish_count, is_same_element}
+use Rattle.doc_request.specs.declared.doc_draft.DocDraft.{DocDraft}
+use Rattle.doc_request.specs.declared.wish_draft.WishDraft.{WishDraft}
 use Rattle.mdoc_program.specs.WishLine.{wish_line}
 use Rattle.mdoc_program.specs.declared.wish_line.WishLine.{WishLine}
 use Rattle.mdoc_program.specs.declared.wish_line.WishLine.TheVariants.{Document, Want}
 use Rattle.mdoc_program.specs.declared.file_fault.FileFault.{FileFault}
 use Rattle.mdoc_program.specs.declared.file_fault.FileFault.TheVariants as fault
-use Rattle.mdoc_program.specs.declared.doc_draft.DocDraft.{DocDraft}
-use Rattle.mdoc_program.specs.declared.wish_draft.WishDraft.{WishDraft}
 
 -- How far a file was read: the documents that are complete, and the one whose wishes are being read.
 pub record Progress : Type 0 where
@@ -21,14 +21,6 @@ pub record Progress : Type 0 where
 
 abbrev pub at_start : Progress
 at_start = record { complete = []; current = None }
-
--- the number of all wishes so far
-abbrev pub wish_count : List DocDraft → ℕ
-wish_count documents = sum_by (λ document. length document.wishes) documents
-
--- whether two wishes are for one element
-abbrev pub is_same_element : WishDraft → WishDraft → Bool
-is_same_element a b = bytes_eq a.ns b.ns && bytes_eq a.name b.name
 
 -- with the document that is being read, which has a wish; else what ends it, at this line, is wrong
 abbrev pub with_current : ℕ → List DocDraft → Option DocDraft → Result (List DocDraft) FileFault

@@ -1,5 +1,5 @@
 // What a document that is asked for is answered with.
-use crate::Wish;
+use consent::Wish;
 use mdoc_outside::Memory;
 
 // A released item, with its namespace.
@@ -27,7 +27,7 @@ pub(crate) struct AnsweredDocument<'a> {
 impl<'a> AnsweredDocument<'a> {
     ghost use Rattle.std.specs.Prelude.{◌≡◌, OnOk, option_copied};
     ghost use Rattle.mdoc_program.specs.AnsweredDocument.{answered_seen, with_answer};
-    ghost use Rattle.mdoc_program.specs.Wish.{wanted};
+    ghost use Rattle.consent.specs.Wish.{wanted};
 
     // Adds a wish: the item that answers it, or that it is missing.
     pub(crate) fn add(&mut self, wish: &Wish<'a>, given: Option<&'a [u8]>) -> Result<(), Memory>

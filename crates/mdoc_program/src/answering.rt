@@ -3,15 +3,16 @@ ghost use Rattle.std.specs.Prelude.{◌≡◌, None, IfOk, map, option_map, opti
 ghost use Rattle.std.specs.List.{AllByRecursion};
 ghost use Rattle.doc_store.specs.StoreView.{documents_in};
 ghost use Rattle.doc_store.specs.StoredCopy.{copy_of};
+ghost use Rattle.consent.specs.Wish.{wanted};
+ghost use Rattle.doc_request.specs.Draft.{IsDocument, IsWish};
 ghost use Rattle.mdoc_program.specs.AnsweredDocument.{answered_seen};
 ghost use Rattle.mdoc_program.specs.Core.{answered, answered_with};
 ghost use Rattle.mdoc_program.specs.Released.{answer, shown_copy, wanted_of};
-ghost use Rattle.mdoc_program.specs.Request.{IsDocument, IsWish};
-ghost use Rattle.mdoc_program.specs.Wish.{wanted};
 
 use crate::answered::AnsweredDocument;
 use crate::names::text_of;
-use crate::{DocDraft, Rules, Wish, WishDraft};
+use consent::{Rules, Wish};
+use doc_request::{DocDraft, WishDraft};
 use doc_store::{Store, StoredCopy};
 use mdoc_outside::Memory;
 use std::alloc::Global;

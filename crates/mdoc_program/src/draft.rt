@@ -1,20 +1,22 @@
 // The command `draft`: prints the core of what the holder's rules release.
 ghost use Rattle.std.specs.Prelude.{◌≡◌, true, IfOk};
 ghost use Rattle.doc_store.specs.StoreView.{documents_of_file};
+ghost use Rattle.doc_request.specs.Draft.{IsRequest};
 ghost use Rattle.mdoc_program.specs.Draft.{draft_files, draft_line, draft_outcome};
 ghost use Rattle.mdoc_program.specs.Order.{is_in_form, row};
 ghost use Rattle.mdoc_program.specs.Outcome.{files_named};
-ghost use Rattle.mdoc_program.specs.Request.{IsRequest};
 ghost use Rattle.mdoc_program.specs.Steps.{Does};
 ghost use Rattle.mdoc_program.specs.World.{world};
 ghost use Rattle.mdoc_program.specs.declared.command.Command.TheVariants.{Draft};
 
+use crate::Status;
 use crate::answering::answer_all;
 use crate::form::read_file;
 use crate::order::value_of;
 use crate::print_lines::print_lines;
 use crate::response_writer::write_core;
-use crate::{RequestDraft, Rules, Status};
+use consent::Rules;
+use doc_request::RequestDraft;
 use doc_store::StoreFile;
 use mdoc_outside::{Cabinet, Memory, Octets, Sink, Word};
 use std::alloc::Global;

@@ -1,6 +1,6 @@
 // The texts of names.
 ghost use Rattle.std.specs.Prelude.{◌≡◌};
-ghost use Rattle.mdoc_program.specs.Request.{IsName};
+ghost use Rattle.doc_request.specs.Draft.{IsName};
 
 use mdoc_outside::Octets;
 use std::str;

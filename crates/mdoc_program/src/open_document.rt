@@ -1,5 +1,5 @@
 // A document of a wishes file whose wishes are being read.
-use crate::WishDraft;
+use doc_request::WishDraft;
 use mdoc_outside::Octets;
 
 // A document whose wishes are being read.

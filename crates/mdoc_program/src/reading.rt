@@ -1,13 +1,15 @@
 // A wishes file that is being read, line by line.
 ghost use Rattle.std.specs.Prelude.{◌≡◌, ◌+◌, ◌≤◌, List, IfOk};
 ghost use Rattle.std.specs.List.{list_any};
+ghost use Rattle.doc_request.specs.Draft.{wish_count, is_same_element};
 ghost use Rattle.mdoc_program.specs.FileFault.{ReadsFile};
 ghost use Rattle.mdoc_program.specs.OpenDocument.{open_count};
-ghost use Rattle.mdoc_program.specs.Wishes.{Progress, wish_count, at_start, complete_documents, documents_at_end, is_same_element, refusal, with_document, with_want, with_line};
+ghost use Rattle.mdoc_program.specs.Wishes.{Progress, at_start, complete_documents, documents_at_end, refusal, with_document, with_want, with_line};
 
+use crate::FileFault;
 use crate::open_document::OpenDocument;
 use crate::wish_line::WishLine;
-use crate::{DocDraft, FileFault, RequestDraft, WishDraft};
+use doc_request::{DocDraft, RequestDraft, WishDraft};
 use mdoc_outside::{LimitName, Octets, Rows};
 use std::alloc::Global;
 

@@ -3,8 +3,8 @@ ghost use Rattle.std.specs.Prelude.{◌≡◌, ℕ, List, IfOk, map};
 ghost use Rattle.std.specs.Borrow.{Bor};
 ghost use Rattle.mdoc_program.specs.WishLine.{document_line, want_line, wish_line};
 
-use crate::WishDraft;
-use crate::rule_line::flag_of;
+use consent::flag_of;
+use doc_request::WishDraft;
 use mdoc_outside::{Memory, Octets, is_name};
 use std::alloc::Global;
 

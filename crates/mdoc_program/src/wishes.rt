@@ -1,13 +1,14 @@
 // A wishes file.
 ghost use Rattle.std.specs.Prelude.{IfOk};
+ghost use Rattle.doc_request.specs.Draft.{IsRequest};
 ghost use Rattle.mdoc_program.specs.FileFault.{ReadsFile};
-ghost use Rattle.mdoc_program.specs.Request.{IsRequest};
 ghost use Rattle.mdoc_program.specs.Wishes.{wishes_of};
 
+use crate::FileFault;
 use crate::reading::Reading;
 use crate::wish_line::wish_line;
 use crate::word_list::word_list;
-use crate::{FileFault, RequestDraft};
+use doc_request::RequestDraft;
 use mdoc_outside::{line_count, lines_of};
 use std::alloc::Global;
 

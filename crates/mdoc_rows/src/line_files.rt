@@ -1,5 +1,6 @@
 // The rules and wishes files.
-use mdoc_program::{FileFault, RuleFault, Rules, Wish, read_wishes};
+use consent::{RuleFault, Rules, Wish};
+use mdoc_program::{FileFault, read_wishes};
 use std::test::Fail;
 
 // A name of 128 bytes; with one more it is too long.

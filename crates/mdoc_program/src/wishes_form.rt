@@ -1,15 +1,9 @@
-// A request that is being made.
+// Wishes files.
 use crate::form::Form;
-use crate::{DocDraft, FileFault, FormCheck, Role, Status, read_wishes};
-use mdoc_outside::{Octets, Rows};
+use crate::{FileFault, FormCheck, Role, Status, read_wishes};
+use doc_request::RequestDraft;
+use mdoc_outside::Octets;
 use std::alloc::Global;
-
-/// A request: the documents that it asks for, in order.
-#[derive(Drop)]
-pub struct RequestDraft {
-    /// The documents.
-    pub documents: Rows<DocDraft>,
-}
 
 impl Form for RequestDraft {
     ghost use Rattle.mdoc_program.specs.declared.role.Role.TheVariants as roles;
