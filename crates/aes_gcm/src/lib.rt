@@ -17,8 +17,6 @@ mod schedule;
 mod sealing;
 mod table;
 mod tables;
-#[cfg(test)]
-mod tests;
 
 pub use key::Key256;
 pub use no_match::NoMatch;

@@ -1,3 +1,5 @@
+//! Views of CBOR by their bytes, whole ones and those of bytes that break off.
+
 use cbor_view::{CborFault, CborKind, Doubled, Key, PartialView, View, types_are_send_and_sync};
 use std::test::*;
 
@@ -50,11 +52,19 @@ const REFUSED: [(&[u8], CborKind, usize); 41] = [
     (b"\x63\xed\xa0\x80", CborKind::BadText, 0),
 ];
 
+fn is_item(bytes: &[u8]) -> bool {
+    View::read(bytes).is_ok()
+}
+
+/// Whether bytes are no item, with that first fault.
+fn is_refused(bytes: &[u8], kind: CborKind, at: usize) -> bool {
+    View::read(bytes).err() == Some(CborFault { kind, at })
+}
+
 #[test]
 fn refuses_what_is_no_item(rt: HostRuntime) {
-    for (bytes, kind, at) in REFUSED {
-        let fault = View::read(bytes).err();
-        assert_eq!(rt; fault, Some(CborFault { kind, at }), "{bytes:?}");
+    for (bytes, kind, at) in &REFUSED {
+        assert!(rt; is_refused(bytes, *kind, *at), "{bytes:?}");
     }
 }
 
@@ -89,129 +99,144 @@ const TEXTS: [(&[u8], &str); 8] = [
     (b"\x79\x00\x01\x61", "a"),
 ];
 
-#[test]
-fn reads_numbers_and_texts(rt: HostRuntime) -> Result<(), Fail> {
-    for (bytes, number) in NUMBERS {
-        let view = View::read(bytes).ok().ok_or("a number")?;
-        assert_eq!(rt; view.uint(), Some(number));
-        assert_eq!(rt; view.int(), Some(i128::from(number)));
-        assert_eq!(rt; view.raw(), bytes);
+/// Whether the whole bytes are read as a number.
+fn is_number(bytes: &[u8], number: u64) -> bool {
+    match View::read(bytes) {
+        Ok(view) => view.uint() == Some(number) && view.raw() == bytes,
+        Err(_) => false,
     }
-    for (bytes, text) in TEXTS {
-        let view = View::read(bytes).ok().ok_or("a text")?;
-        assert_eq!(rt; view.text(), Some(text));
-        assert_eq!(rt; view.raw(), bytes);
-    }
-    let lowest = View::read(b"\x3b\xff\xff\xff\xff\xff\xff\xff\xff")
-        .ok()
-        .ok_or("a number")?;
-    assert_eq!(rt; lowest.int(), Some(-18_446_744_073_709_551_616));
-    Ok(())
 }
 
-/// What each reader tells of an item of each kind: uint, int, bytes, text, boolean, null, tag,
-/// items, pairs.
-const KINDS: [(&[u8], [bool; 9]); 12] = [
-    (
-        b"\x0a",
-        [true, true, false, false, false, false, false, false, false],
-    ),
-    (
-        b"\x29",
-        [false, true, false, false, false, false, false, false, false],
-    ),
-    (
-        b"\x44\x01\x02\x03\x04",
-        [false, false, true, false, false, false, false, false, false],
-    ),
-    (
-        b"\x61\x61",
-        [false, false, false, true, false, false, false, false, false],
-    ),
-    (
-        b"\x83\x01\x02\x03",
-        [false, false, false, false, false, false, false, true, false],
-    ),
-    (
-        b"\xa2\x01\x02\x03\x04",
-        [false, false, false, false, false, false, false, false, true],
-    ),
-    (
-        b"\xc1\x1a\x51\x4b\x67\xb0",
-        [false, false, false, false, false, false, true, false, false],
-    ),
-    (
-        b"\xf4",
-        [false, false, false, false, true, false, false, false, false],
-    ),
-    (
-        b"\xf6",
-        [false, false, false, false, false, true, false, false, false],
-    ),
-    (
-        b"\xf9\x3c\x00",
-        [
-            false, false, false, false, false, false, false, false, false,
-        ],
-    ),
-    (
-        b"\xfa\x47\xc3\x50\x00",
-        [
-            false, false, false, false, false, false, false, false, false,
-        ],
-    ),
-    (
-        b"\xfb\x3f\xf1\x99\x99\x99\x99\x99\x9a",
-        [
-            false, false, false, false, false, false, false, false, false,
-        ],
-    ),
-];
+/// Whether the whole bytes are read as a text.
+fn is_text(bytes: &[u8], text: &str) -> bool {
+    match View::read(bytes) {
+        Ok(view) => view.text() == Some(text) && view.raw() == bytes,
+        Err(_) => false,
+    }
+}
+
+/// The number that bytes are read as, of either sign.
+fn int_of(bytes: &[u8]) -> Option<i128> {
+    View::read(bytes).ok()?.int()
+}
 
 #[test]
-fn each_reader_tells_its_kind(rt: HostRuntime) -> Result<(), Fail> {
-    for (bytes, tells) in KINDS {
-        let view = View::read(bytes).ok().ok_or("an item")?;
-        let told = [
-            view.uint().is_some(),
-            view.int().is_some(),
-            view.bytes().is_some(),
-            view.text().is_some(),
-            view.boolean().is_some(),
-            view.is_null(),
-            view.tag().is_some(),
-            view.items().is_some(),
-            view.pairs().is_some(),
-        ];
-        assert_eq!(rt; told, tells, "{bytes:?}");
+fn reads_numbers_and_texts(rt: HostRuntime) {
+    for (bytes, number) in &NUMBERS {
+        assert!(rt; is_number(bytes, *number), "{number}");
+        assert!(rt; int_of(bytes) == Some(i128::from(*number)), "{number}");
     }
-    Ok(())
+    for (bytes, text) in &TEXTS {
+        assert!(rt; is_text(bytes, text), "{text}");
+    }
+    let lowest = int_of(b"\x3b\xff\xff\xff\xff\xff\xff\xff\xff");
+    assert!(rt; lowest == Some(-18_446_744_073_709_551_616));
+}
+
+#[derive(Clone, Copy, Debug, PartialEq, Eq)]
+enum Reader {
+    Uint,
+    Int,
+    Bytes,
+    Text,
+    Boolean,
+    Null,
+    Tag,
+    Items,
+    Pairs,
+}
+
+const READERS: [Reader; 9] = [
+    Reader::Uint,
+    Reader::Int,
+    Reader::Bytes,
+    Reader::Text,
+    Reader::Boolean,
+    Reader::Null,
+    Reader::Tag,
+    Reader::Items,
+    Reader::Pairs,
+];
+
+/// An item of each kind, with the readers that tell of it.
+const KINDS: [(&[u8], &[Reader]); 12] = [
+    (b"\x0a", &[Reader::Uint, Reader::Int]),
+    (b"\x29", &[Reader::Int]),
+    (b"\x44\x01\x02\x03\x04", &[Reader::Bytes]),
+    (b"\x61\x61", &[Reader::Text]),
+    (b"\x83\x01\x02\x03", &[Reader::Items]),
+    (b"\xa2\x01\x02\x03\x04", &[Reader::Pairs]),
+    (b"\xc1\x1a\x51\x4b\x67\xb0", &[Reader::Tag]),
+    (b"\xf4", &[Reader::Boolean]),
+    (b"\xf6", &[Reader::Null]),
+    (b"\xf9\x3c\x00", &[]),
+    (b"\xfa\x47\xc3\x50\x00", &[]),
+    (b"\xfb\x3f\xf1\x99\x99\x99\x99\x99\x9a", &[]),
+];
+
+/// Whether that reader tells of an item.
+fn tells(view: &View<'_>, reader: Reader) -> bool {
+    match reader {
+        Reader::Uint => view.uint().is_some(),
+        Reader::Int => view.int().is_some(),
+        Reader::Bytes => view.bytes().is_some(),
+        Reader::Text => view.text().is_some(),
+        Reader::Boolean => view.boolean().is_some(),
+        Reader::Null => view.is_null(),
+        Reader::Tag => view.tag().is_some(),
+        Reader::Items => view.items().is_some(),
+        Reader::Pairs => view.pairs().is_some(),
+    }
+}
+
+/// Whether these readers tell of the item that bytes spell, and no others.
+fn tell_alone(bytes: &[u8], readers: &[Reader]) -> bool {
+    let Ok(view) = View::read(bytes) else {
+        return false;
+    };
+    for reader in READERS {
+        if tells(&view, reader) != readers.contains(&reader) {
+            return false;
+        }
+    }
+    true
+}
+
+#[test]
+fn each_reader_tells_its_kind(rt: HostRuntime) {
+    for (bytes, readers) in &KINDS {
+        assert!(rt; tell_alone(bytes, readers), "{bytes:?}");
+    }
+}
+
+/// What the simple value of that number, in one byte, is read as: a boolean, and whether null.
+fn simple_value(number: u8) -> Option<(Option<bool>, bool)> {
+    let bytes = [0xe0 | number];
+    let view = View::read(&bytes).ok()?;
+    Some((view.boolean(), view.is_null()))
 }
 
 #[test]
 fn reads_every_simple_value(rt: HostRuntime) {
-    let reserved = CborFault {
-        kind: CborKind::Reserved,
-        at: 0,
-    };
-    for number in 0..=255u8 {
-        let in_two = View::read(&[0xf8, number]).err();
-        let want = if number < 32 { Some(reserved) } else { None };
-        assert_eq!(rt; in_two, want);
+    for number in 0..32u8 {
+        assert!(rt;
+            is_refused(&[0xf8, number], CborKind::Reserved, 0),
+            "{number}"
+        );
+    }
+    for number in 32..=255u8 {
+        assert!(rt; is_item(&[0xf8, number]), "{number}");
     }
     for number in 0..24u8 {
-        let bytes = [0xe0 + number];
-        let Ok(view) = View::read(&bytes) else {
-            assert!(rt; false, "{number}");
-            return;
-        };
-        let want = match number {
+        let boolean = match number {
             20 => Some(false),
             21 => Some(true),
             _ => None,
         };
-        assert_eq!(rt; view.boolean(), want);
-        assert_eq!(rt; view.is_null(), number == 22);
+        assert!(rt;
+            simple_value(number) == Some((boolean, number == 22)),
+            "{number}"
+        );
     }
 }
 
@@ -220,34 +245,31 @@ const THIRTY: &[u8; 40] =
     b"\x81\xa1\x00\xc1\x81\xa1\x00\xc1\x81\xa1\x00\xc1\x81\xa1\x00\xc1\x81\xa1\x00\xc1\
       \x81\xa1\x00\xc1\x81\xa1\x00\xc1\x81\xa1\x00\xc1\x81\xa1\x00\xc1\x81\xa1\x00\xc1";
 
+/// Where an item inside these thirty levels is too deep.
+fn too_deep_at(item: &[u8; 4]) -> Option<usize> {
+    let mut mixed = [0u8; 44];
+    mixed[..40].copy_from_slice(THIRTY);
+    mixed[40..].copy_from_slice(item);
+    match View::read(&mixed) {
+        Err(
+            CborFault {
+                kind: CborKind::Deep,
+                at,
+            },
+        ) => Some(at),
+        _ => None,
+    }
+}
+
 #[test]
 fn nests_to_thirty_two_levels(rt: HostRuntime) {
     let mut arrays = [0x81u8; 34];
     arrays[33] = 0;
-    let fault = View::read(&arrays).err();
-    assert_eq!(rt;
-        fault,
-        Some(CborFault {
-            kind: CborKind::Deep,
-            at: 32
-        })
-    );
-    assert!(rt; View::read(&arrays[1..]).is_ok());
-    for (tail, at) in [
-        (b"\x81\xa1\x00\x00", 0),
-        (b"\x81\xc1\x81\x00", 42),
-        (b"\x81\x81\xc1\x00", 42),
-    ] {
-        let mut mixed = [0u8; 44];
-        mixed[..40].copy_from_slice(THIRTY);
-        mixed[40..].copy_from_slice(tail);
-        let fault = View::read(&mixed).err();
-        let deep = CborFault {
-            kind: CborKind::Deep,
-            at,
-        };
-        assert_eq!(rt; fault, (at != 0).then_some(deep));
-    }
+    assert!(rt; is_refused(&arrays, CborKind::Deep, 32));
+    assert!(rt; is_item(&arrays[1..]));
+    assert!(rt; too_deep_at(b"\x81\xa1\x00\x00") == None);
+    assert!(rt; too_deep_at(b"\x81\xc1\x81\x00") == Some(42));
+    assert!(rt; too_deep_at(b"\x81\x81\xc1\x00") == Some(42));
 }
 
 /// {"status": 0, "status": 10}
@@ -268,151 +290,224 @@ const ENTRIES: [(&[u8], Key<'static>, Result<Option<(usize, usize)>, Doubled>); 
     (b"\x81\x01", Key::Int(1), Ok(None)),
 ];
 
-#[test]
-fn finds_entries(rt: HostRuntime) -> Result<(), Fail> {
-    for (bytes, key, want) in ENTRIES {
-        let map = View::read(bytes).ok().ok_or("an item")?;
-        let found = match map.entry(key) {
-            Ok(Some(value)) => Ok(Some(value.span())),
-            Ok(None) => Ok(None),
-            Err(Doubled) => Err(Doubled),
-        };
-        assert_eq!(rt; found, want, "{key:?} of {bytes:?}");
+/// The span of the value under a key.
+fn span_under(bytes: &[u8], key: Key<'_>) -> Result<Option<(usize, usize)>, Doubled> {
+    let Ok(map) = View::read(bytes) else {
+        return Ok(None);
+    };
+    match map.entry(key) {
+        Ok(Some(value)) => Ok(Some(value.span())),
+        Ok(None) => Ok(None),
+        Err(Doubled) => Err(Doubled),
     }
-    Ok(())
 }
 
-/// An array and the places of its two items.
-const ARRAYS: [(&[u8], [(usize, usize); 2]); 2] = [
-    (b"\x82\x01\x82\x02\x03", [(1, 2), (2, 5)]),
-    (b"\x98\x02\x18\x18\x60", [(2, 4), (4, 5)]),
+#[test]
+fn finds_entries(rt: HostRuntime) {
+    for (bytes, key, wanted) in &ENTRIES {
+        assert!(rt; span_under(bytes, *key) == *wanted, "{key:?} of {bytes:?}");
+    }
+}
+
+/// The span of an item, in front of its bytes.
+type Span = (usize, usize);
+
+/// An array, a number from 0, and the span of the item of that number, if there is one.
+const ITEMS: [(&[u8], usize, Option<Span>); 6] = [
+    (b"\x82\x01\x82\x02\x03", 0, Some((1, 2))),
+    (b"\x82\x01\x82\x02\x03", 1, Some((2, 5))),
+    (b"\x82\x01\x82\x02\x03", 2, None),
+    (b"\x98\x02\x18\x18\x60", 0, Some((2, 4))),
+    (b"\x98\x02\x18\x18\x60", 1, Some((4, 5))),
+    (b"\x98\x02\x18\x18\x60", 2, None),
 ];
 
-/// A map and the places of the keys and values of its two entries.
-const MAPS: [(&[u8], [((usize, usize), (usize, usize)); 2]); 1] = [(
-    b"\xa2\x61a\x01\x61b\x82\x02\x03",
-    [((1, 3), (3, 4)), ((4, 6), (6, 9))],
-)];
+/// A map, a number from 0, and the spans of the key and the value of that number, if there are any.
+const PAIRS: [(&[u8], usize, Option<(Span, Span)>); 3] = [
+    (b"\xa2\x61a\x01\x61b\x82\x02\x03", 0, Some(((1, 3), (3, 4)))),
+    (b"\xa2\x61a\x01\x61b\x82\x02\x03", 1, Some(((4, 6), (6, 9)))),
+    (b"\xa2\x61a\x01\x61b\x82\x02\x03", 2, None),
+];
 
-#[test]
-fn goes_over_parts(rt: HostRuntime) -> Result<(), Fail> {
-    for (bytes, spans) in ARRAYS {
-        let view = View::read(bytes).ok().ok_or("an item")?;
-        let mut items = view.items().ok_or("an array")?;
-        for span in spans {
-            let item = items.next().ok_or("an item")?;
-            assert_eq!(rt; item.span(), span);
-            assert_eq!(rt; Some(item.raw()), bytes.get(span.0..span.1));
-        }
-        assert!(rt; items.next().is_none());
+/// The item of an array with that number.
+fn item_of(bytes: &[u8], number: usize) -> Option<View<'_>> {
+    View::read(bytes).ok()?.items()?.nth(number)
+}
+
+fn span_of_item(bytes: &[u8], number: usize) -> Option<Span> {
+    Some(item_of(bytes, number)?.span())
+}
+
+/// Whether the bytes of that item are those of its span.
+fn raw_is_the_span(bytes: &[u8], number: usize) -> bool {
+    match item_of(bytes, number) {
+        Some(item) => bytes.get(item.span().0..item.span().1) == Some(item.raw()),
+        None => true,
     }
-    for (bytes, spans) in MAPS {
-        let view = View::read(bytes).ok().ok_or("an item")?;
-        let mut pairs = view.pairs().ok_or("a map")?;
-        for both in spans {
-            let (key, value) = pairs.next().ok_or("a pair")?;
-            assert_eq!(rt; (key.span(), value.span()), both);
-        }
-        assert!(rt; pairs.next().is_none());
-    }
-    Ok(())
+}
+
+fn spans_of_pair(bytes: &[u8], number: usize) -> Option<(Span, Span)> {
+    let (key, value) = View::read(bytes).ok()?.pairs()?.nth(number)?;
+    Some((key.span(), value.span()))
 }
 
 #[test]
-fn goes_under_tags(rt: HostRuntime) -> Result<(), Fail> {
-    // tag 24 over the bytes of {1: 2}
-    let embedded = View::read(b"\xd8\x18\x43\xa1\x01\x02")
-        .ok()
-        .ok_or("an item")?;
-    let (number, inner) = embedded.tag().ok_or("a tag")?;
-    assert_eq!(rt; (number, inner.span()), (24, (2, 6)));
-    assert_eq!(rt; inner.bytes(), Some(b"\xa1\x01\x02".as_slice()));
-    assert_eq!(rt; (embedded.depth(), inner.depth()), (1, 0));
+fn goes_over_parts(rt: HostRuntime) {
+    for (bytes, number, span) in &ITEMS {
+        assert!(rt;
+            span_of_item(bytes, *number) == *span,
+            "{number} of {bytes:?}"
+        );
+        assert!(rt; raw_is_the_span(bytes, *number), "{number} of {bytes:?}");
+    }
+    for (bytes, number, spans) in &PAIRS {
+        assert!(rt;
+            spans_of_pair(bytes, *number) == *spans,
+            "{number} of {bytes:?}"
+        );
+    }
+}
+
+/// Tag 24 over the bytes of {1: 2}.
+const EMBEDDED: &[u8] = b"\xd8\x18\x43\xa1\x01\x02";
+
+/// A tag's number, and the span and the depth of what is under it.
+fn under_tag(bytes: &[u8]) -> Option<(u64, Span, u32)> {
+    let (number, inner) = View::read(bytes).ok()?.tag()?;
+    Some((number, inner.span(), inner.depth()))
+}
+
+fn bytes_under_tag(bytes: &[u8]) -> Option<&[u8]> {
+    View::read(bytes).ok()?.tag()?.1.bytes()
+}
+
+fn depth_of(bytes: &[u8]) -> Option<u32> {
+    Some(View::read(bytes).ok()?.depth())
+}
+
+#[test]
+fn goes_under_tags(rt: HostRuntime) {
+    assert!(rt; under_tag(EMBEDDED) == Some((24, (2, 6), 0)));
+    assert!(rt; bytes_under_tag(EMBEDDED) == Some(b"\xa1\x01\x02".as_slice()));
+    assert!(rt; depth_of(EMBEDDED) == Some(1));
     types_are_send_and_sync();
-    Ok(())
 }
 
 /// {"a": 1, "b": [2], "c": "xyz"}, cut in the third value.
 const CUT_MAP: &[u8] = b"\xa3\x61a\x01\x61b\x81\x02\x61c\x63xy";
 
+/// [1, 24([2, a break, 3
+const BROKEN: &[u8] = b"\x83\x01\xd8\x18\x82\x02\xff\x03";
+
+/// {1: [2, 3]} and a byte.
+const WHOLE: &[u8] = b"\xa1\x01\x82\x02\x03\x00";
+
+/// A map whose second key is broken.
+const BROKEN_KEY: &[u8] = b"\xa2\x01\x02\x1c\x03";
+
+const TRUNCATED: CborFault = CborFault {
+    kind: CborKind::Truncated,
+    at: 10,
+};
+
+const RESERVED: CborFault = CborFault {
+    kind: CborKind::Reserved,
+    at: 6,
+};
+
+/// Where an item that may break off begins, and its first fault.
+type Start = (usize, Option<CborFault>);
+
+fn start_of(item: Option<PartialView<'_>>) -> Option<Start> {
+    let item = item?;
+    Some((item.at(), item.fault()))
+}
+
+/// The span of an item, where it is whole.
+fn whole_span(item: Option<PartialView<'_>>) -> Option<Span> {
+    Some(item?.view()?.span())
+}
+
+/// The number of an item, where it is whole.
+fn whole_number(item: Option<PartialView<'_>>) -> Option<u64> {
+    item?.view()?.uint()
+}
+
+fn count_of(item: Option<PartialView<'_>>) -> Option<u64> {
+    item?.count()
+}
+
+fn item_in<'a>(array: &PartialView<'a>, number: usize) -> Option<PartialView<'a>> {
+    array.items()?.nth(number)
+}
+
+fn key_in<'a>(map: &PartialView<'a>, number: usize) -> Option<PartialView<'a>> {
+    Some(map.pairs()?.nth(number)?.0)
+}
+
+fn value_in<'a>(map: &PartialView<'a>, number: usize) -> Option<PartialView<'a>> {
+    map.pairs()?.nth(number)?.1
+}
+
 #[test]
-fn views_a_cut_map(rt: HostRuntime) -> Result<(), Fail> {
-    let partial = PartialView::read(CUT_MAP);
-    let truncated = CborFault {
-        kind: CborKind::Truncated,
-        at: 10,
-    };
-    assert_eq!(rt; partial.fault(), Some(truncated));
-    assert_eq!(rt; partial.fault(), View::read(CUT_MAP).err());
-    assert!(rt; partial.view().is_none());
-    assert!(rt; partial.items().is_none());
-    assert!(rt; partial.count().is_none());
-    assert!(rt; partial.tag().is_none());
-    let mut pairs = partial.pairs().ok_or("a map")?;
-    for (key_at, value_at, fault) in [(1, 3, None), (4, 6, None), (8, 10, Some(truncated))] {
-        let (key, value) = pairs.next().ok_or("a pair")?;
-        let value = value.ok_or("a value")?;
-        assert_eq!(rt; (key.at(), value.at()), (key_at, value_at));
-        assert_eq!(rt; (key.fault(), value.fault()), (None, fault));
+fn views_a_cut_map(rt: HostRuntime) {
+    let map = PartialView::read(CUT_MAP);
+    assert!(rt; start_of(Some(map)) == Some((0, Some(TRUNCATED))));
+    assert!(rt; is_refused(CUT_MAP, CborKind::Truncated, 10));
+    assert!(rt; map.view().is_none() && map.items().is_none());
+    assert!(rt; map.count().is_none() && map.tag().is_none());
+    for (number, key, value) in [
+        (0, Some((1, None)), Some((3, None))),
+        (1, Some((4, None)), Some((6, None))),
+        (2, Some((8, None)), Some((10, Some(TRUNCATED)))),
+        (3, None, None),
+    ] {
+        assert!(rt; start_of(key_in(&map, number)) == key, "{number}");
+        assert!(rt; start_of(value_in(&map, number)) == value, "{number}");
     }
-    assert!(rt; pairs.next().is_none());
-    Ok(())
 }
 
 #[test]
 fn views_a_broken_item(rt: HostRuntime) -> Result<(), Fail> {
-    // [1, 24([2, a break, 3
-    let partial = PartialView::read(b"\x83\x01\xd8\x18\x82\x02\xff\x03");
-    let reserved = CborFault {
-        kind: CborKind::Reserved,
-        at: 6,
-    };
-    assert_eq!(rt; (partial.at(), partial.fault()), (0, Some(reserved)));
-    assert_eq!(rt; partial.count(), Some(3));
-    assert!(rt; partial.pairs().is_none());
-    let mut items = partial.items().ok_or("an array")?;
-    let first = items.next().ok_or("an item")?;
-    assert_eq!(rt; (first.at(), first.fault()), (1, None));
-    assert_eq!(rt; first.view().ok_or("a number")?.uint(), Some(1));
-    let second = items.next().ok_or("an item")?;
-    assert_eq!(rt; (second.at(), second.fault()), (2, Some(reserved)));
-    assert!(rt; items.next().is_none());
-    let (number, inner) = second.tag().ok_or("a tag")?;
-    assert_eq!(rt;
-        (number, inner.at(), inner.fault()),
-        (24, 4, Some(reserved))
-    );
-    let broken = inner.items().ok_or("an array")?.nth(1).ok_or("an item")?;
-    assert_eq!(rt; (broken.at(), broken.fault()), (6, Some(reserved)));
+    let array = PartialView::read(BROKEN);
+    assert!(rt; start_of(Some(array)) == Some((0, Some(RESERVED))));
+    assert!(rt; array.count() == Some(3) && array.pairs().is_none());
+    assert!(rt; start_of(item_in(&array, 0)) == Some((1, None)));
+    assert!(rt; whole_number(item_in(&array, 0)) == Some(1));
+    assert!(rt; start_of(item_in(&array, 1)) == Some((2, Some(RESERVED))));
+    assert!(rt; start_of(item_in(&array, 2)) == None);
+    Ok(())
+}
+
+#[test]
+fn views_what_a_broken_item_holds(rt: HostRuntime) -> Result<(), Fail> {
+    let array = PartialView::read(BROKEN);
+    let tagged = item_in(&array, 1).ok_or("the second item")?;
+    let (number, inner) = tagged.tag().ok_or("a tag")?;
+    assert!(rt; number == 24);
+    assert!(rt; start_of(Some(inner)) == Some((4, Some(RESERVED))));
+    let broken = item_in(&inner, 1).ok_or("the break")?;
+    assert!(rt; start_of(Some(broken)) == Some((6, Some(RESERVED))));
     assert!(rt; broken.items().is_none());
-    // the second key is broken
-    let (key, value) = PartialView::read(b"\xa2\x01\x02\x1c\x03")
-        .pairs()
-        .ok_or("a map")?
-        .nth(1)
-        .ok_or("a pair")?;
-    assert_eq!(rt; (key.at(), value.is_none()), (3, true));
+    let map = PartialView::read(BROKEN_KEY);
+    assert!(rt; key_in(&map, 1).is_some_and(|key| key.at() == 3));
+    assert!(rt; value_in(&map, 1).is_none());
     Ok(())
 }
 
 #[test]
 fn views_a_whole_item(rt: HostRuntime) -> Result<(), Fail> {
-    // {1: [2, 3]} and a byte
-    let partial = PartialView::read(b"\xa1\x01\x82\x02\x03\x00");
-    assert_eq!(rt; partial.fault(), None);
-    let view = partial.view().ok_or("an item")?;
-    assert_eq!(rt; view.span(), (0, 5));
-    let mut pairs = partial.pairs().ok_or("a map")?;
-    let (key, value) = pairs.next().ok_or("a pair")?;
-    assert_eq!(rt; key.view().ok_or("a key")?.uint(), Some(1));
-    let value = value.ok_or("a value")?;
-    assert_eq!(rt; value.view().ok_or("a value")?.span(), (2, 5));
-    assert_eq!(rt; (key.count(), value.count()), (None, Some(2)));
-    let mut items = value.items().ok_or("an array")?;
-    for at in [3, 4] {
-        assert_eq!(rt; items.next().ok_or("an item")?.at(), at);
-    }
-    assert!(rt; items.next().is_none());
-    assert!(rt; pairs.next().is_none());
+    let map = PartialView::read(WHOLE);
+    assert!(rt; start_of(Some(map)) == Some((0, None)));
+    assert!(rt; whole_span(Some(map)) == Some((0, 5)));
+    assert!(rt; whole_number(key_in(&map, 0)) == Some(1));
+    assert!(rt; whole_span(value_in(&map, 0)) == Some((2, 5)));
+    assert!(rt; count_of(key_in(&map, 0)) == None);
+    assert!(rt; count_of(value_in(&map, 0)) == Some(2));
+    assert!(rt; key_in(&map, 1).is_none());
+    let array = value_in(&map, 0).ok_or("the value")?;
+    assert!(rt; start_of(item_in(&array, 0)) == Some((3, None)));
+    assert!(rt; start_of(item_in(&array, 1)) == Some((4, None)));
+    assert!(rt; item_in(&array, 2).is_none());
     Ok(())
 }

@@ -1,7 +1,7 @@
 //! Certificates that another implementation wrote, as `tests/vectors/certificates` prints them, with what it
 //! reads of them.
 
-use cert_view::{Cert, CertCheck, CertFault, Roots, RootsFault};
+use cert_view::{Cert, CertCheck, CertFault, Root, Roots};
 use std::alloc::Global;
 use std::test::*;
 
@@ -244,19 +244,20 @@ const REFUSED: [Refused; 3] = [
     },
 ];
 
-fn bytes_of(alloc: Global, digits: &str) -> Result<Vec<u8>, Fail> {
-    Ok(hex::decode(alloc, digits).ok().ok_or("digits")?)
+/// The digits of the first, which is a root.
+pub fn root_digits() -> &'static str {
+    let [root, ..] = &TAKEN;
+    root.digits
 }
 
-/// A roots file of so many lines, each with the first certificate of the table.
-fn roots_text(alloc: Global, count: usize) -> Result<Vec<u8>, Fail> {
-    let mut text = Vec::new(alloc);
-    for _ in 0..count {
-        text.extend_from_slice(b"root issuer ")?;
-        text.extend_from_slice(TAKEN[0].digits.as_bytes())?;
-        text.push(b'\n')?;
-    }
-    Ok(text)
+/// The digits of the second, which is a document signer.
+pub fn signer_digits() -> &'static str {
+    let [_, signer, ..] = &TAKEN;
+    signer.digits
+}
+
+fn bytes_of(alloc: Global, digits: &str) -> Result<Vec<u8>, Fail> {
+    Ok(hex::decode(alloc, digits).ok().ok_or("digits")?)
 }
 
 /// The bytes of a span.
@@ -264,30 +265,45 @@ fn part(bytes: &[u8], span: (usize, usize)) -> Option<&[u8]> {
     bytes.get(span.0..span.1)
 }
 
-/// Whether a certificate says what the table does.
-fn has_fields(cert: &Cert<'_>, bytes: &[u8], row: &Certificate) -> bool {
+/// Whether a certificate has the names of the table.
+fn has_names(cert: &Cert<'_>, bytes: &[u8], row: &Certificate) -> bool {
     Some(cert.issuer()) == part(bytes, row.issuer)
         && Some(cert.subject()) == part(bytes, row.subject)
-        && Some(cert.key().x.as_slice()) == part(bytes, row.x)
+}
+
+/// Whether it has the key of the table.
+fn has_key(cert: &Cert<'_>, bytes: &[u8], row: &Certificate) -> bool {
+    Some(cert.key().x.as_slice()) == part(bytes, row.x)
         && Some(cert.key().y.as_slice()) == part(bytes, row.y)
-        && cert.not_before() == row.not_before
+}
+
+/// Whether it has the times and the purpose of the table.
+fn has_purpose(cert: &Cert<'_>, row: &Certificate) -> bool {
+    cert.not_before() == row.not_before
         && cert.not_after() == row.not_after
         && cert.signs_documents() == row.signs_documents
 }
 
+/// Whether bytes are read as the table says.
+fn is_read(bytes: &[u8], row: &Certificate) -> bool {
+    match Cert::read(bytes) {
+        Ok(cert) => {
+            has_names(&cert, bytes, row) && has_key(&cert, bytes, row) && has_purpose(&cert, row)
+        }
+        Err(_) => false,
+    }
+}
+
+/// Whether bytes are refused by that check, at that place.
+fn is_refused(bytes: &[u8], check: CertCheck, at: usize) -> bool {
+    Cert::read(bytes).err() == Some(CertFault { check, at })
+}
+
 #[test]
 fn reads_what_another_implementation_wrote(rt: HostRuntime) -> Result<(), Fail> {
-    let roots = Roots::read(rt.alloc(), &roots_text(rt.alloc(), 1)?)?;
-    let root = roots.list().first().ok_or("a root")?;
     for row in &TAKEN {
         let bytes = bytes_of(rt.alloc(), row.digits)?;
-        let signature = bytes_of(rt.alloc(), row.signature)?;
-        let cert = Cert::read(&bytes).ok().ok_or("a certificate")?;
-        assert!(rt; has_fields(&cert, &bytes, row));
-        let ask = cert.asks(root);
-        assert!(rt; ask.public == *root.cert().key());
-        assert_eq!(rt; Some(ask.message), part(&bytes, row.message));
-        assert_eq!(rt; ask.signature.as_slice(), signature.as_slice());
+        assert!(rt; is_read(&bytes, row));
     }
     Ok(())
 }
@@ -296,18 +312,36 @@ fn reads_what_another_implementation_wrote(rt: HostRuntime) -> Result<(), Fail> 
 fn tells_what_the_profile_refuses(rt: HostRuntime) -> Result<(), Fail> {
     for row in &REFUSED {
         let bytes = bytes_of(rt.alloc(), row.digits)?;
-        let (check, at) = (row.check, row.at);
-        assert_eq!(rt; Cert::read(&bytes).err(), Some(CertFault { check, at }));
+        assert!(rt; is_refused(&bytes, row.check, row.at));
     }
     Ok(())
 }
 
-/// The bytes with another byte at that place.
-fn with_byte(alloc: Global, bytes: &[u8], place: usize, byte: u8) -> Result<Vec<u8>, Fail> {
-    let mut other = bytes.to_vec(alloc)?;
-    let cell = other.get_mut(place).ok_or("a place")?;
-    *cell = byte;
-    Ok(other)
+/// Whether the question of a root's signature is that root's key, the part of that span, and that
+/// signature.
+fn asks(bytes: &[u8], root: &Root, message: (usize, usize), signature: &[u8]) -> bool {
+    match Cert::read(bytes) {
+        Ok(cert) => {
+            let ask = cert.asks(root);
+            ask.public == *root.cert().key()
+                && Some(ask.message) == part(bytes, message)
+                && ask.signature.as_slice() == signature
+        }
+        Err(_) => false,
+    }
+}
+
+#[test]
+fn asks_whether_a_root_signed(rt: HostRuntime) -> Result<(), Fail> {
+    let text = format!(in rt.alloc(); "root issuer {}\n", root_digits())?;
+    let roots = Roots::read(rt.alloc(), text.as_bytes())?;
+    let root = roots.list().first().ok_or("a root")?;
+    for row in &TAKEN {
+        let bytes = bytes_of(rt.alloc(), row.digits)?;
+        let signature = bytes_of(rt.alloc(), row.signature)?;
+        assert!(rt; asks(&bytes, root, row.message, &signature));
+    }
+    Ok(())
 }
 
 /// Whether a fault of the bytes, where they have one, stands within them.
@@ -318,161 +352,34 @@ fn is_within(bytes: &[u8]) -> bool {
     }
 }
 
+/// Whether what stands in front of a place is no certificate, with a fault within it.
+fn is_cut_at(bytes: &[u8], place: usize) -> bool {
+    match bytes.get(..place) {
+        Some(cut) => Cert::read(cut).is_err() && is_within(cut),
+        None => false,
+    }
+}
+
+/// Whether a fault stands within the bytes with another byte at that place.
+fn is_within_with(alloc: Global, bytes: &[u8], place: usize, byte: u8) -> Result<bool, Fail> {
+    let mut other = bytes.to_vec(alloc)?;
+    match other.get_mut(place) {
+        Some(cell) => *cell = byte,
+        None => return Ok(false),
+    }
+    Ok(is_within(&other))
+}
+
 /// What is cut short is no certificate, and a fault stands within the bytes.
 #[test]
 fn reads_whatever_bytes_come(rt: HostRuntime) -> Result<(), Fail> {
-    let alloc = rt.alloc();
     for row in &TAKEN {
-        let bytes = bytes_of(alloc, row.digits)?;
+        let bytes = bytes_of(rt.alloc(), row.digits)?;
         for place in 0..bytes.len() {
-            let cut = bytes.get(..place).ok_or("a part")?;
-            let low = with_byte(alloc, &bytes, place, 0x00)?;
-            let high = with_byte(alloc, &bytes, place, 0xff)?;
-            assert!(rt; Cert::read(cut).is_err());
-            assert!(rt; is_within(cut) && is_within(&low) && is_within(&high));
+            assert!(rt; is_cut_at(&bytes, place));
+            assert!(rt; is_within_with(rt.alloc(), &bytes, place, 0x00)?);
+            assert!(rt; is_within_with(rt.alloc(), &bytes, place, 0xff)?);
         }
     }
-    Ok(())
-}
-
-/// What stands in front of a certificate's digits and after them, and the fault of that file, if it
-/// has one.
-const FILES: [(&[u8], &[u8], Option<RootsFault>); 19] = [
-    (b"root issuer ", b"", None),
-    (b"  root  issuer   ", b"  ", None),
-    (
-        b"# a comment \xff\n\n  \r\n  # another\nroot issuer ",
-        b"\r\n\n",
-        None,
-    ),
-    (b"root #1 ", b"", None),
-    (b"root *+ ", b"", None),
-    (
-        b"root 123456789.123456789.123456789.123456789.123456789.123456789.123456789.123456789.123456789.123456789.123456789.123456789.12345678 ",
-        b"",
-        None,
-    ),
-    (
-        b"root 123456789.123456789.123456789.123456789.123456789.123456789.123456789.123456789.123456789.123456789.123456789.123456789.123456789 ",
-        b"",
-        Some(RootsFault::Line(1)),
-    ),
-    (b"root * ", b"", Some(RootsFault::Line(1))),
-    (b"root + ", b"", Some(RootsFault::Line(1))),
-    (b"root issu\xc3\xa9r ", b"", Some(RootsFault::Line(1))),
-    (
-        b"\n# a comment\nRoot issuer ",
-        b"",
-        Some(RootsFault::Line(3)),
-    ),
-    (b"root ", b"", Some(RootsFault::Line(1))),
-    (b"root issuer of ", b"", Some(RootsFault::Line(1))),
-    (b"root issuer ", b"\r", Some(RootsFault::Line(1))),
-    (b"root issuer ", b"0", Some(RootsFault::Line(1))),
-    (b"root issuer ", b"00", Some(RootsFault::Line(1))),
-    (b"root issuer ", b"0g", Some(RootsFault::Line(1))),
-    (
-        b"root issuer -\nroot issuer ",
-        b"",
-        Some(RootsFault::Line(1)),
-    ),
-    (
-        b"root issuer ",
-        b"\nroot issuer 30\n",
-        Some(RootsFault::Line(2)),
-    ),
-];
-
-#[test]
-fn reads_roots_files(rt: HostRuntime) -> Result<(), Fail> {
-    for (front, behind, fault) in FILES {
-        let mut text = front.to_vec(rt.alloc())?;
-        text.extend_from_slice(TAKEN[0].digits.as_bytes())?;
-        text.extend_from_slice(behind)?;
-        let roots = Roots::read(rt.alloc(), &text);
-        assert_eq!(rt; roots.err(), fault);
-    }
-    let none = Roots::read(rt.alloc(), b"# nobody\n")?;
-    assert!(rt; none.list().is_empty());
-    Ok(())
-}
-
-/// Names may repeat, and digits are of either case.
-#[test]
-fn roots_stand_in_the_order_of_the_file(rt: HostRuntime) -> Result<(), Fail> {
-    let mut text = b"root first ".to_vec(rt.alloc())?;
-    text.extend_from_slice(&TAKEN[1].digits.as_bytes().to_ascii_uppercase(rt.alloc())?)?;
-    text.extend_from_slice(b"\nroot first ")?;
-    text.extend_from_slice(TAKEN[0].digits.as_bytes())?;
-    let roots = Roots::read(rt.alloc(), &text)?;
-    let signer = roots.list().first().ok_or("a root")?;
-    let root = roots.list().get(1).ok_or("another root")?;
-    assert_eq!(rt; signer.name(), "first");
-    assert_eq!(rt; root.name(), "first");
-    assert!(rt; signer.cert().signs_documents());
-    assert!(rt; !root.cert().signs_documents());
-    Ok(())
-}
-
-#[test]
-fn reads_at_most_64_roots(rt: HostRuntime) -> Result<(), Fail> {
-    let mut text = roots_text(rt.alloc(), 64)?;
-    assert_eq!(rt; Roots::read(rt.alloc(), &text)?.list().len(), 64);
-    let mut bad = text.clone()?;
-    bad.extend_from_slice(b"\nroot issuer\n")?;
-    assert_eq!(rt;
-        Roots::read(rt.alloc(), &bad).err(),
-        Some(RootsFault::Line(66))
-    );
-    text.extend_from_slice(&roots_text(rt.alloc(), 1)?)?;
-    assert_eq!(rt;
-        Roots::read(rt.alloc(), &text).err(),
-        Some(RootsFault::TooMany(65))
-    );
-    text.extend_from_slice(b"root issuer\n")?;
-    assert_eq!(rt;
-        Roots::read(rt.alloc(), &text).err(),
-        Some(RootsFault::TooMany(65))
-    );
-    Ok(())
-}
-
-/// The tag of a SEQUENCE and a length in two bytes.
-fn long_sequence(length: u16) -> [u8; 4] {
-    let [high, low] = length.to_be_bytes();
-    [0x30, 0x82, high, low]
-}
-
-/// The first certificate of the table with an issuer that is so long that all has that many bytes,
-/// as a roots file: what is inside a name is not read.
-fn root_of_size(alloc: Global, size: u16) -> Result<Vec<u8>, Fail> {
-    let bytes = bytes_of(alloc, TAKEN[0].digits)?;
-    let (start, end) = TAKEN[0].issuer;
-    let (_, signed_end) = TAKEN[0].message;
-    let front = bytes.get(7..start).ok_or("what stands before the issuer")?;
-    let rest = bytes
-        .get(end..signed_end)
-        .ok_or("what is signed behind it")?;
-    let tail = bytes.get(signed_end..).ok_or("what is not signed")?;
-    let issuer = vec![in alloc; 0; usize::from(size.saturating_sub(259))]?;
-    let mut longer = Vec::new(alloc);
-    longer.extend_from_slice(&long_sequence(size.saturating_sub(4)))?;
-    longer.extend_from_slice(&long_sequence(size.saturating_sub(4 + 4 + 87)))?;
-    longer.extend_from_slice(front)?;
-    longer.extend_from_slice(&long_sequence(size.saturating_sub(259)))?;
-    longer.extend_from_slice(&issuer)?;
-    longer.extend_from_slice(rest)?;
-    longer.extend_from_slice(tail)?;
-    let mut text = b"root issuer ".to_vec(alloc)?;
-    text.extend_from_slice(hex::encode(alloc, longer)?.as_bytes())?;
-    Ok(text)
-}
-
-#[test]
-fn reads_certificates_of_at_most_8192_bytes(rt: HostRuntime) -> Result<(), Fail> {
-    let most = Roots::read(rt.alloc(), &root_of_size(rt.alloc(), 8192)?)?;
-    assert_eq!(rt; most.list().len(), 1);
-    let more = Roots::read(rt.alloc(), &root_of_size(rt.alloc(), 8193)?);
-    assert_eq!(rt; more.err(), Some(RootsFault::Line(1)));
     Ok(())
 }

@@ -13,6 +13,8 @@ mod der_elements;
 #[cfg(test)]
 mod element_table;
 #[cfg(test)]
+mod roots_files;
+#[cfg(test)]
 mod stores;
 #[cfg(test)]
 mod written_certificates;

@@ -2,10 +2,11 @@
 
 use cbor_view::{CborFault, CborKind};
 use doc_store::StoreCheck::{Cbor, Doubled, Field, Item, Limit, Version};
-use doc_store::{EMPTY_STORE, Fault, ItemFault, Store, StoreCheck, StoreFault, StoredCopy};
+use doc_store::{
+    Document, EMPTY_STORE, Fault, ItemFault, Store, StoreCheck, StoreFault, StoredCopy,
+};
 use mdoc_outside::{KeyName, LimitName};
 use std::alloc::Global;
-use std::process::Abort;
 use std::test::Fail;
 
 /// A store with the document type `d`, one copy, the namespace `n` and one item.
@@ -90,34 +91,63 @@ fn fault_of(alloc: Global, bytes: &[u8]) -> Option<(StoreCheck, usize)> {
     }
 }
 
+/// The copy to show of the document of type `d`.
+fn copy_to_show<'a>(store: &Store<'a>) -> Option<StoredCopy<'a>> {
+    let document = store.find("d")?;
+    Some(document.copy(document.chosen()))
+}
+
+/// The item of that name in that copy.
+fn item_of<'a>(store: &Store<'a>, ns: &str, name: &str) -> Option<&'a [u8]> {
+    copy_to_show(store)?.item(ns, name)
+}
+
+/// What a document says but for its copies: its type, whether its keys make codes, the number of
+/// copies, and the place of the one to show.
+fn document_says<'a>(document: &Document<'a>) -> (&'a str, bool, usize, usize) {
+    (
+        document.doc_type(),
+        document.uses_mac(),
+        document.copies(),
+        document.chosen(),
+    )
+}
+
+/// What a copy says but for its items: the number of its key, whether it is used, its signature.
+fn copy_says<'a>(copy: &StoredCopy<'a>) -> (u32, bool, &'a [u8]) {
+    (copy.key(), copy.used(), copy.issuer_auth().raw())
+}
+
 #[test]
 fn reads_one_item(rt: HostRuntime) -> Result<(), Fail> {
-    let alloc = rt.alloc();
-    let store = Store::read(alloc, ONE_ITEM).expect(&rt, "a store");
-    assert_eq!(rt; store.documents(), 1);
-    assert!(rt; store.find("e").is_none());
-    let document = store.find("d").expect(&rt, "a document");
-    assert_eq!(rt; document.doc_type(), "d");
-    assert!(rt; !document.uses_mac());
-    assert_eq!(rt; document.copies(), 1);
-    assert_eq!(rt; document.chosen(), 0);
-    let copy = document.copy(document.chosen());
-    assert_eq!(rt; copy.key(), 0);
-    assert!(rt; !copy.used());
-    assert_eq!(rt;
-        copy.issuer_auth().raw(),
-        b"\x84\x40\xa0\xf6\x40".as_slice()
-    );
-    assert_eq!(rt; copy.item("n", "a"), Some(ITEM));
-    assert_eq!(rt; copy.item("n", "b"), None);
-    assert_eq!(rt; copy.item("m", "a"), None);
+    let store = Store::read(rt.alloc(), ONE_ITEM).ok().ok_or("a store")?;
+    assert!(rt; store.documents() == 1 && store.find("e").is_none());
+    let document = store.find("d").ok_or("a document")?;
+    assert!(rt; document_says(&document) == ("d", false, 1, 0));
+    let copy = copy_to_show(&store).ok_or("a copy")?;
+    assert!(rt; copy_says(&copy) == (0, false, b"\x84\x40\xa0\xf6\x40"));
+    assert!(rt; item_of(&store, "n", "a") == Some(ITEM));
+    assert!(rt; item_of(&store, "n", "b") == None);
+    assert!(rt; item_of(&store, "m", "a") == None);
     Ok(())
+}
+
+/// Of a store with one document of these copies: the place of the copy to show, and its key.
+fn chosen_of(alloc: Global, copies: &[&[u8]]) -> Result<Option<(usize, u32)>, Fail> {
+    let copies = joined(alloc, copies)?;
+    let bytes = joined(alloc, &[DOCUMENT, &copies])?;
+    Ok(chosen_in(alloc, &bytes))
+}
+
+fn chosen_in(alloc: Global, bytes: &[u8]) -> Option<(usize, u32)> {
+    let store = Store::read(alloc, bytes).ok()?;
+    let document = store.find("d")?;
+    Some((document.chosen(), copy_to_show(&store)?.key()))
 }
 
 /// The places of copies to show, by the copies of the one document.
 #[test]
 fn chooses_the_first_unused_copy(rt: HostRuntime) -> Result<(), Fail> {
-    let alloc = rt.alloc();
     let cases: [(&[&[u8]], usize, u32); 5] = [
         (&[b"\x81", COPY], 0, 0),
         (&[b"\x82", USED_COPY, COPY], 1, 0),
@@ -125,13 +155,11 @@ fn chooses_the_first_unused_copy(rt: HostRuntime) -> Result<(), Fail> {
         (&[b"\x83", COPY, USED_COPY, COPY], 0, 0),
         (&[b"\x82", USED_COPY, USED_COPY], 0, 7),
     ];
-    for (copies, wanted, key) in cases {
-        let copies = joined(alloc, copies)?;
-        let bytes = joined(alloc, &[DOCUMENT, &copies])?;
-        let store = Store::read(alloc, &bytes).expect(&rt, "a store");
-        let document = store.find("d").expect(&rt, "a document");
-        assert_eq!(rt; document.chosen(), wanted);
-        assert_eq!(rt; document.copy(document.chosen()).key(), key);
+    for (copies, place, key) in &cases {
+        assert!(rt;
+            chosen_of(rt.alloc(), copies)? == Some((*place, *key)),
+            "{copies:?}"
+        );
     }
     Ok(())
 }
@@ -147,42 +175,74 @@ fn shown(alloc: Global, copy: StoredCopy<'_>) -> Result<Vec<u8>, Fail> {
     Ok(all)
 }
 
-/// Items of one name in two namespaces.
+/// An item of the name `a` with another salt.
+const SALTED_ITEM: &[u8] = b"\xd8\x18\x58\x37\xa4\x68digestID\x00\x66random\x41\x05\
+\x71elementIdentifier\x61a\x6celementValue\x61x";
+
+/// A store with items of one name in two namespaces.
+fn two_namespaces(alloc: Global) -> Result<Vec<u8>, Fail> {
+    joined(
+        alloc,
+        &[
+            DOCUMENT,
+            b"\x81",
+            COPY_HEAD,
+            b"\xa2\x61m\x82",
+            OTHER_ITEM,
+            SALTED_ITEM,
+            b"\x61n\x81",
+            ITEM,
+        ],
+    )
+}
+
 #[test]
 fn tells_namespaces_apart(rt: HostRuntime) -> Result<(), Fail> {
-    let alloc = rt.alloc();
-    let two = joined(alloc, &[b"\xa2\x61m\x82", OTHER_ITEM, ITEM, b"\x61n\x81"])?;
-    let bytes = replaced(alloc, ONE_ITEM, b"\xa1\x61n\x81", &two)?;
-    let bytes = replaced(alloc, &bytes, b"\x41\x01", b"\x41\x05")?;
-    let first = replaced(alloc, ITEM, b"\x41\x01", b"\x41\x05")?;
-    let store = Store::read(alloc, &bytes).expect(&rt, "a store");
-    let document = store.find("d").expect(&rt, "a document");
-    let copy = document.copy(document.chosen());
-    assert_eq!(rt; copy.item("n", "a"), Some(ITEM));
-    assert_eq!(rt; copy.item("m", "b"), Some(OTHER_ITEM));
-    assert_eq!(rt; copy.item("m", "a"), Some(first.as_slice()));
-    assert_eq!(rt; copy.item("n", "b"), None);
-    let wanted = joined(alloc, &[b"m:", OTHER_ITEM, b"m:", &first, b"n:", ITEM])?;
-    assert_eq!(rt; shown(alloc, copy)?, wanted);
+    let bytes = two_namespaces(rt.alloc())?;
+    let store = Store::read(rt.alloc(), &bytes).ok().ok_or("a store")?;
+    assert!(rt; item_of(&store, "n", "a") == Some(ITEM));
+    assert!(rt; item_of(&store, "m", "b") == Some(OTHER_ITEM));
+    assert!(rt; item_of(&store, "m", "a") == Some(SALTED_ITEM));
+    assert!(rt; item_of(&store, "n", "b") == None);
     Ok(())
+}
+
+#[test]
+fn goes_over_the_items_of_a_copy(rt: HostRuntime) -> Result<(), Fail> {
+    let bytes = two_namespaces(rt.alloc())?;
+    let store = Store::read(rt.alloc(), &bytes).ok().ok_or("a store")?;
+    let copy = copy_to_show(&store).ok_or("a copy")?;
+    let items = [b"m:", OTHER_ITEM, b"m:", SALTED_ITEM, b"n:", ITEM];
+    let wanted = joined(rt.alloc(), &items)?;
+    assert!(rt; shown(rt.alloc(), copy)? == wanted);
+    Ok(())
+}
+
+/// The type of the document at a place, and whether its keys make codes.
+fn type_at<'a>(store: &Store<'a>, place: usize) -> Option<(&'a str, bool)> {
+    if place >= store.documents() {
+        return None;
+    }
+    let document = store.document(place);
+    Some((document.doc_type(), document.uses_mac()))
 }
 
 /// Documents in the order of the file.
 #[test]
 fn keeps_the_order_of_documents(rt: HostRuntime) -> Result<(), Fail> {
-    let alloc = rt.alloc();
     let front = b"\xa2\x67version\x01\x69documents\x83";
-    let bytes = numbered(alloc, front, DOCUMENT_HEAD, DOCUMENT_END, 3)?;
-    let store = Store::read(alloc, &bytes).expect(&rt, "a store");
-    assert_eq!(rt; store.documents(), 3);
-    for (place, wanted) in [(0, "000"), (1, "001"), (2, "002")] {
-        if place < store.documents() {
-            assert_eq!(rt; store.document(place).doc_type(), wanted);
-            assert!(rt; store.document(place).uses_mac());
-        }
+    let bytes = numbered(rt.alloc(), front, DOCUMENT_HEAD, DOCUMENT_END, 3)?;
+    let store = Store::read(rt.alloc(), &bytes).ok().ok_or("a store")?;
+    for (place, wanted) in [
+        (0, Some(("000", true))),
+        (1, Some(("001", true))),
+        (2, Some(("002", true))),
+        (3, None),
+    ] {
+        assert!(rt; type_at(&store, place) == wanted, "{place}");
     }
-    let store = Store::read(alloc, &EMPTY_STORE).expect(&rt, "a store");
-    assert_eq!(rt; store.documents(), 0);
+    let none = Store::read(rt.alloc(), &EMPTY_STORE).ok().ok_or("a store")?;
+    assert!(rt; type_at(&none, 0) == None);
     Ok(())
 }
 
@@ -409,31 +469,68 @@ const DAMAGES: [(&[u8], &[u8], StoreCheck, usize); 44] = [
     ),
 ];
 
+/// The first fault of the store with one item, with a part of it replaced and so many bytes cut off
+/// its end.
+fn fault_with(
+    alloc: Global,
+    old: &[u8],
+    new: &[u8],
+    cut: usize,
+) -> Result<Option<(StoreCheck, usize)>, Fail> {
+    let bytes = replaced(alloc, ONE_ITEM, old, new)?;
+    match bytes.get(..bytes.len().saturating_sub(cut)) {
+        Some(front) => Ok(fault_of(alloc, front)),
+        None => Ok(None),
+    }
+}
+
 #[test]
 fn refuses_damaged_stores(rt: HostRuntime) -> Result<(), Fail> {
-    let alloc = rt.alloc();
-    for (old, new, check, at) in DAMAGES {
-        let bytes = replaced(alloc, ONE_ITEM, old, new)?;
-        let fault = fault_of(alloc, &bytes);
-        assert_eq!(rt; fault, Some((check, at)), "{new:?} for {old:?}");
+    for (old, new, check, at) in &DAMAGES {
+        let fault = fault_with(rt.alloc(), old, new, 0)?;
+        assert!(rt; fault == Some((*check, *at)), "{new:?} for {old:?}");
     }
-    let truncated = Cbor(CborKind::Truncated);
-    assert_eq!(rt; fault_of(alloc, b""), Some((truncated, 0)));
-    // two items of one name, two documents of one type
-    let doubled = joined(alloc, &[b"\x61n\x82", ITEM])?;
-    let bytes = replaced(alloc, ONE_ITEM, b"\x61n\x81", &doubled)?;
-    assert_eq!(rt; fault_of(alloc, &bytes), Some((Doubled, 148)));
-    let document = b"\xa3\x67docType\x61d\x64auth\x00\x66copies\x81";
-    let front = b"\xa2\x67version\x01\x69documents\x82";
-    let bytes = joined(alloc, &[front, document, COPY, document, COPY])?;
-    assert_eq!(rt; fault_of(alloc, &bytes), Some((Doubled, 95)));
+    Ok(())
+}
+
+/// A document up to its copy.
+const ONE_DOCUMENT: &[u8] = b"\xa3\x67docType\x61d\x64auth\x00\x66copies\x81";
+
+/// Files by their parts: none at all, two items of one name, two documents of one type.
+#[test]
+fn refuses_what_stands_twice(rt: HostRuntime) -> Result<(), Fail> {
+    let cases: [(&[&[u8]], StoreCheck, usize); 3] = [
+        (&[], Cbor(CborKind::Truncated), 0),
+        (
+            &[DOCUMENT, b"\x81", COPY_HEAD, b"\xa1\x61n\x82", ITEM, ITEM],
+            Doubled,
+            148,
+        ),
+        (
+            &[
+                b"\xa2\x67version\x01\x69documents\x82",
+                ONE_DOCUMENT,
+                COPY,
+                ONE_DOCUMENT,
+                COPY,
+            ],
+            Doubled,
+            95,
+        ),
+    ];
+    for (parts, check, at) in &cases {
+        let bytes = joined(rt.alloc(), parts)?;
+        assert!(rt;
+            fault_of(rt.alloc(), &bytes) == Some((*check, *at)),
+            "{parts:?}"
+        );
+    }
     Ok(())
 }
 
 /// Two damages of the store with one item: the fault that is reported is the first in byte order.
 #[test]
 fn tells_the_first_of_two(rt: HostRuntime) -> Result<(), Fail> {
-    let alloc = rt.alloc();
     let truncated = Cbor(CborKind::Truncated);
     let cases: [(&[u8], &[u8], usize, StoreCheck, usize); 6] = [
         // a version of 2 before bytes that end, and a key number of another kind after them
@@ -458,75 +555,103 @@ fn tells_the_first_of_two(rt: HostRuntime) -> Result<(), Fail> {
         ),
         (b"\x84\x40\xa0\xf6\x40", b"\x84\x40\xa0", 74, truncated, 72),
     ];
-    for (old, new, cut, check, at) in cases {
-        let bytes = replaced(alloc, ONE_ITEM, old, new)?;
-        let front = bytes
-            .get(..bytes.len().saturating_sub(cut))
-            .ok_or("a front")?;
-        let fault = fault_of(alloc, front);
-        assert_eq!(rt; fault, Some((check, at)), "{new:?} for {old:?}");
+    for (old, new, cut, check, at) in &cases {
+        let fault = fault_with(rt.alloc(), old, new, *cut)?;
+        assert!(rt; fault == Some((*check, *at)), "{new:?} for {old:?}");
     }
     Ok(())
 }
 
-/// What a limit still lets stand, and what passes it: the first bytes are read, the others refused.
+/// So many documents, after the head of their list.
+fn documents(alloc: Global, head: &[u8], count: u16) -> Result<Vec<u8>, Fail> {
+    let front = joined(alloc, &[b"\xa2\x67version\x01\x69documents", head])?;
+    numbered(alloc, &front, DOCUMENT_HEAD, DOCUMENT_END, count)
+}
+
+/// So many copies of one document, after the head of their list.
+fn copies(alloc: Global, head: &[u8], count: u16) -> Result<Vec<u8>, Fail> {
+    let mut bytes = joined(alloc, &[DOCUMENT, head])?;
+    for _ in 0..count {
+        bytes.extend_from_slice(COPY)?;
+    }
+    Ok(bytes)
+}
+
+/// So many namespaces without items, after the head of their map.
+fn namespaces(alloc: Global, head: &[u8], count: u16) -> Result<Vec<u8>, Fail> {
+    let front = joined(alloc, &[DOCUMENT, b"\x81", COPY_HEAD, head])?;
+    numbered(alloc, &front, b"\x63", b"\x80", count)
+}
+
+/// So many items in one copy, after the head of their namespace, and what stands after them.
+fn items(alloc: Global, head: &[u8], count: u16, rest: &[u8]) -> Result<Vec<u8>, Fail> {
+    let front = joined(alloc, &[DOCUMENT, b"\x81", COPY_HEAD, head])?;
+    let listed = numbered(alloc, &front, NUMBERED_ITEM, NUMBERED_END, count)?;
+    joined(alloc, &[&listed, rest])
+}
+
+/// An item up to its name of three bytes, and from there on.
+const NUMBERED_ITEM: &[u8] =
+    b"\xd8\x18\x58\x39\xa4\x68digestID\x00\x66random\x41\x01\x71elementIdentifier\x63";
+
+const NUMBERED_END: &[u8] = b"\x6celementValue\x61x";
+
+/// What a limit still lets stand, and what passes it: 16 documents and 17, 64 copies, 65 and none.
 #[test]
 fn keeps_the_limits(rt: HostRuntime) -> Result<(), Fail> {
     let alloc = rt.alloc();
-    // documents, 16 and 17
-    let beyond = Some((Limit(LimitName::Documents, 17), 1_093));
-    for (head, count, fault) in [(b"\x90", 16, None), (b"\x91", 17, beyond)] {
-        let front = joined(alloc, &[b"\xa2\x67version\x01\x69documents", head])?;
-        let bytes = numbered(alloc, &front, DOCUMENT_HEAD, DOCUMENT_END, count)?;
-        assert_eq!(rt; fault_of(alloc, &bytes), fault, "{count} documents");
+    let documents_17 = Some((Limit(LimitName::Documents, 17), 1_093));
+    for (head, count, fault) in [(b"\x90", 16, None), (b"\x91", 17, documents_17)] {
+        let bytes = documents(alloc, head, count)?;
+        assert!(rt; fault_of(alloc, &bytes) == fault, "{count} documents");
     }
-    // copies, 64, 65 and none
-    let beyond = Some((Limit(LimitName::Copies, 65), 2_607));
-    let none = Some((Field(KeyName::Copies), 45));
+    let copies_65 = Some((Limit(LimitName::Copies, 65), 2_607));
+    let no_copies = Some((Field(KeyName::Copies), 45));
     for (head, count, fault) in [
         (b"\x98\x40", 64, None),
-        (b"\x98\x41", 65, beyond),
-        (b"\x98\x00", 0, none),
+        (b"\x98\x41", 65, copies_65),
+        (b"\x98\x00", 0, no_copies),
     ] {
-        let mut bytes = joined(alloc, &[DOCUMENT, head])?;
-        for _ in 0..count {
-            bytes.extend_from_slice(COPY)?;
-        }
-        assert_eq!(rt; fault_of(alloc, &bytes), fault, "{count} copies");
-    }
-    // namespaces, 16 and 17
-    let beyond = Some((Limit(LimitName::Namespaces, 17), 166));
-    for (head, count, fault) in [(b"\xb0", 16, None), (b"\xb1", 17, beyond)] {
-        let spaces = numbered(alloc, head, b"\x63", b"\x80", count)?;
-        let bytes = joined(alloc, &[DOCUMENT, b"\x81", COPY_HEAD, &spaces])?;
-        assert_eq!(rt; fault_of(alloc, &bytes), fault, "{count} namespaces");
+        let bytes = copies(alloc, head, count)?;
+        assert!(rt; fault_of(alloc, &bytes) == fault, "{count} copies");
     }
     Ok(())
 }
 
-/// Items in all, 512 and 513, in one namespace and in two.
+/// 16 namespaces and 17.
+#[test]
+fn keeps_the_limit_of_namespaces(rt: HostRuntime) -> Result<(), Fail> {
+    let alloc = rt.alloc();
+    let namespaces_17 = Some((Limit(LimitName::Namespaces, 17), 166));
+    for (head, count, fault) in [(b"\xb0", 16, None), (b"\xb1", 17, namespaces_17)] {
+        let bytes = namespaces(alloc, head, count)?;
+        assert!(rt; fault_of(alloc, &bytes) == fault, "{count} namespaces");
+    }
+    Ok(())
+}
+
+/// A second namespace with one item.
+const OTHER_NAMESPACE: &[u8] = b"\x61n\x81\xd8\x18\x58\x37\xa4\x68digestID\x00\x66random\x41\x01\
+\x71elementIdentifier\x61a\x6celementValue\x61x";
+
+/// Items in all, 512 and 513, in one namespace and in two: the head of the first namespace, how many
+/// items it has, what stands after it, and where the first item too many is.
+const MANY_ITEMS: [(&[u8], u16, &[u8], Option<usize>); 4] = [
+    (b"\xa1\x61m\x99\x02\x00", 512, b"", None),
+    (b"\xa1\x61m\x99\x02\x01", 513, b"", Some(31_323)),
+    (b"\xa2\x61m\x99\x01\xff", 511, OTHER_NAMESPACE, None),
+    (b"\xa2\x61m\x99\x02\x00", 512, OTHER_NAMESPACE, Some(31_326)),
+];
+
 #[test]
 fn keeps_the_limit_of_items(rt: HostRuntime) -> Result<(), Fail> {
-    let alloc = rt.alloc();
-    let before = b"\xd8\x18\x58\x39\xa4\x68digestID\x00\x66random\x41\x01\x71elementIdentifier\x63";
-    let after = b"\x6celementValue\x61x";
-    for (head, count, beyond) in [
-        (b"\xa1\x61m\x99\x02\x00", 512, None),
-        (b"\xa1\x61m\x99\x02\x01", 513, Some(31_323)),
-        (b"\xa2\x61m\x99\x01\xff", 511, None),
-        (b"\xa2\x61m\x99\x02\x00", 512, Some(31_326)),
-    ] {
-        let mut spaces = numbered(alloc, head, before, after, count)?;
-        if head[0] == 0xa2 {
-            spaces.extend_from_slice(b"\x61n\x81")?;
-            spaces.extend_from_slice(ITEM)?;
-        }
-        let bytes = joined(alloc, &[DOCUMENT, b"\x81", COPY_HEAD, &spaces])?;
+    for (head, count, rest, beyond) in &MANY_ITEMS {
+        let bytes = items(rt.alloc(), head, *count, rest)?;
         let fault = match beyond {
-            Some(at) => Some((Limit(LimitName::Items, 513), at)),
+            Some(at) => Some((Limit(LimitName::Items, 513), *at)),
             None => None,
         };
-        assert_eq!(rt; fault_of(alloc, &bytes), fault, "{count} items");
+        assert!(rt; fault_of(rt.alloc(), &bytes) == fault, "{count} items");
     }
     Ok(())
 }
@@ -583,9 +708,9 @@ fn keeps_the_limits_of_bytes(rt: HostRuntime) -> Result<(), Fail> {
             Some((value, 89)),
         ),
     ];
-    for (inside, old, head, count, fault) in cases {
-        let bytes = lengthened(alloc, inside, old, head, count)?;
-        assert_eq!(rt; fault_of(alloc, &bytes), fault, "at {head:?}");
+    for (inside, old, head, count, fault) in &cases {
+        let bytes = lengthened(alloc, inside, old, head, *count)?;
+        assert!(rt; fault_of(alloc, &bytes) == *fault, "at {head:?}");
     }
     Ok(())
 }

@@ -23,24 +23,15 @@ fn added<'a>(found: Found<'a>, value: View<'a>) -> Found<'a>
     }
 }
 
-/// After a pair of the map with that key.
-fn noted<'a>(found: Found<'a>, name: KeyName, key: &str, value: View<'a>) -> Found<'a>
-    ensures { result ≡ noted name key.now value.entry found.entry }
-{
-    if key == name.text() {
-        added(found, value)
-    } else {
-        found
-    }
-}
-
 /// Notes a pair of the map under each name that its key is.
 fn note<'a>(found: &mut [Found<'a>; 8], names: &[KeyName], key: &str, value: View<'a>)
     requires { length names.now ≤ 8 }
     ensures { (i : ℕ) → i < length names.now → found_at found.new i ≡ noted (name_at names.now i) key.now value.entry (found_at found.old i) }
 {
     for (place, name) in names.iter().enumerate() {
-        found[place] = noted(found[place], *name, key, value);
+        if key == name.text() {
+            found[place] = added(found[place], value);
+        }
     }
 }
 

@@ -20,6 +20,3 @@ pub use map_build::MapBuild;
 pub use map_fault::MapFault;
 pub use named_map::NamedMap;
 pub use sharing::types_are_send_and_sync;
-
-#[cfg(test)]
-mod tests;

@@ -1,2 +1,4 @@
+pub mod FewNames
 pub mod FirstFaults
+pub mod SortedTexts
 pub mod Writing

@@ -4,6 +4,7 @@ pub mod Draft
 pub mod Known
 pub mod KnownView
 pub mod Spaces
+pub mod Texts
 pub mod Views
 pub mod WishesView
 pub mod Written

@@ -91,8 +91,8 @@ impl<'a> DocAsk<'a> {
         self.reader_auth
     }
 
-    /// The elements that are asked for.
-    pub(crate) fn elements(&self) -> Elements<'a>
+    /// The elements that are asked for, in the order of the bytes.
+    pub fn elements(&self) -> Elements<'a>
         ensures { elements_left result ≡ (document_seen self.now).wishes }
     {
         let ns = "";

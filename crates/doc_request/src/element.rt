@@ -2,11 +2,11 @@
 
 /// One element that a document is asked for.
 #[derive(Clone, Copy)]
-pub(crate) struct Element<'a> {
+pub struct Element<'a> {
     /// The namespace.
-    pub(crate) ns: &'a str,
+    pub ns: &'a str,
     /// The element identifier.
-    pub(crate) name: &'a str,
+    pub name: &'a str,
     /// Whether the reader means to retain it.
-    pub(crate) retain: bool,
+    pub retain: bool,
 }

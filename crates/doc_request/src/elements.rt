@@ -12,7 +12,7 @@ use cbor_view::{Pairs, View};
 
 /// The elements that a document is asked for, in the order of the bytes.
 #[derive(Clone, Copy)]
-pub(crate) struct Elements<'a> {
+pub struct Elements<'a> {
     pub(crate) ns: &'a str,
     pub(crate) names: Option<Pairs<'a>>,
     pub(crate) spaces: Pairs<'a>,

@@ -1,16 +1,16 @@
 //! The checks of the namespaces of an items request.
 
-ghost use Rattle.std.specs.Prelude.{◌≡◌};
-ghost use Rattle.std.specs.List.{list_all};
-ghost use Rattle.cbor_view.specs.Label.{is_words};
+ghost use Rattle.std.specs.Prelude.{◌≡◌, ◌≤◌, length};
+ghost use Rattle.std.specs.List.{AllByRecursion, list_all};
 ghost use Rattle.cbor_view.specs.Pairs.{pairs_left};
-ghost use Rattle.cbor_view.specs.Parts.{text_in};
 ghost use Rattle.cbor_view.specs.View.{part};
-ghost use Rattle.doc_request.specs.Spaces.{are_distinct, entries, has_distinct_names, has_name, is_among, is_count, is_element, is_empty, is_space, spaces_fault};
+ghost use Rattle.doc_request.specs.Spaces.{are_distinct, entries, has_distinct_names, is_count, is_element, is_empty, is_space, spaces_fault};
+ghost use Rattle.doc_request.specs.Texts.{HasFewNames};
 ghost use Rattle.doc_request.specs.Views.{elements_left};
 
 use crate::RequestFault;
 use crate::elements::Elements;
+use crate::texts::are_distinct;
 use cbor_view::{Pairs, View};
 use mdoc_outside::KeyName;
 
@@ -18,6 +18,7 @@ use mdoc_outside::KeyName;
 const MOST_ELEMENTS: usize = 512;
 
 /// What is wrong with the namespaces of an items request.
+#[tactic(auto, using(crate::proofs::FewNames::few_spaces, crate::proofs::FewNames::few_names))]
 pub(crate) fn spaces_fault(spaces: Pairs<'_>) -> Option<RequestFault>
     ensures { result ≡ spaces_fault (pairs_left spaces.entry) }
 {
@@ -93,6 +94,7 @@ fn is_count(elements: Elements<'_>) -> bool
 
 /// Whether the names within each namespace are distinct.
 fn have_distinct_names(spaces: Pairs<'_>) -> bool
+    requires { AllByRecursion HasFewNames (pairs_left spaces) }
     ensures { result ≡ list_all has_distinct_names (pairs_left spaces.entry) }
 {
     for (_, map) in spaces {
@@ -105,54 +107,11 @@ fn have_distinct_names(spaces: Pairs<'_>) -> bool
 
 /// Whether the names of a namespace are distinct.
 fn has_distinct_names(map: &View<'_>) -> bool
+    requires { length (entries (part map.now)) ≤ 512 }
     ensures { result ≡ are_distinct (entries (part map.now)) }
 {
     match map.pairs() {
         Some(names) => are_distinct(names),
         None => true,
-    }
-}
-
-/// Whether no text is a key twice. Each is looked for among the keys after it.
-fn are_distinct(mut entries: Pairs<'_>) -> bool
-    ensures { result ≡ are_distinct (pairs_left entries.entry) }
-{
-    while let Some((key, _)) = entries.next() {
-        if is_among(key, entries) {
-            return false;
-        }
-    }
-    true
-}
-
-/// Whether one of the keys is the same text as this key.
-fn is_among(key: View<'_>, entries: Pairs<'_>) -> bool
-    ensures { result ≡ is_among (text_in (part key.entry)) (pairs_left entries.entry) }
-{
-    match key.text() {
-        Some(name) => has_name(name, entries),
-        None => false,
-    }
-}
-
-/// Whether one of the keys is that text.
-fn has_name(name: &str, entries: Pairs<'_>) -> bool
-    ensures { result ≡ has_name name.now (pairs_left entries.entry) }
-{
-    for (key, _) in entries {
-        if is_text(&key, name) {
-            return true;
-        }
-    }
-    false
-}
-
-/// Whether an item is that text.
-fn is_text(item: &View<'_>, text: &str) -> bool
-    ensures { result ≡ is_words text.now (text_in (part item.now)) }
-{
-    match item.text() {
-        Some(own) => own == text,
-        None => false,
     }
 }

@@ -138,6 +138,7 @@ impl<'a> ResponseDraft<'a> {
         requires item { IsOk (reads issuer_auth.now) }
         requires nesting { levels (tree_of issuer_auth.now) ≤ 28 }
         ensures ok { OnOk result (self.new ≡ with_document doc_type.now issuer_auth.now auth self.old) }
+        ensures short { OnOk result (length doc_type.now < 2 ^ 32) }
         ensures err { OnErr result (self.new ≡ self.old) }
     {
         spelled(doc_type)?;
@@ -155,6 +156,8 @@ impl<'a> ResponseDraft<'a> {
         requires document { 0 < length self.old.documents }
         requires item { IsOk (item raw.now) }
         ensures ok { OnOk result (self.new ≡ with_last (and_item ns.now raw.now) self.old) }
+        ensures short { OnOk result (length ns.now < 2 ^ 32) }
+        ensures kept { length self.new.documents ≡ length self.old.documents }
         ensures err { OnErr result (self.new ≡ self.old) }
     {
         spelled(ns)?;
@@ -167,6 +170,8 @@ impl<'a> ResponseDraft<'a> {
         requires document { 0 < length self.old.documents }
         requires distinct { has_missing ns.now name.now self.old.documents ≡ false }
         ensures ok { OnOk result (self.new ≡ with_last (and_missing ns.now name.now) self.old) }
+        ensures short { OnOk result ((length ns.now < 2 ^ 32) × (length name.now < 2 ^ 32)) }
+        ensures kept { length self.new.documents ≡ length self.old.documents }
         ensures err { OnErr result (self.new ≡ self.old) }
     {
         spelled(ns)?;
@@ -178,6 +183,7 @@ impl<'a> ResponseDraft<'a> {
     /// Adds the type of a document of which nothing is returned.
     pub fn nothing(&mut self, doc_type: &'a str) -> Result<(), Memory>
         ensures ok { OnOk result (self.new ≡ with_nothing doc_type.now self.old) }
+        ensures short { OnOk result (length doc_type.now < 2 ^ 32) }
         ensures err { OnErr result (self.new ≡ self.old) }
     {
         spelled(doc_type)?;

@@ -6,8 +6,6 @@
 
 mod derivation;
 mod mac;
-#[cfg(test)]
-mod tests;
 
 pub use derivation::{hkdf, hkdf32};
 pub use mac::hmac;

@@ -3,7 +3,7 @@ pub mod AllPlanStepLemmas
 pub mod CourseLemmas
 mod GaveFormLemmas
 pub mod GaveLemmas
-mod OverLemmas
+pub mod OverLemmas
 mod PartsLemmas
 pub mod PlanEquations
 pub mod PlanLemmas

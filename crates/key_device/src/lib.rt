@@ -46,6 +46,3 @@ pub use sharing::types_are_send_and_sync;
 pub use tape_fault::TapeFault;
 pub use told::Told;
 pub use toy_device::ToyDevice;
-
-#[cfg(test)]
-mod tests;

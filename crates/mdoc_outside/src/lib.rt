@@ -78,6 +78,3 @@ pub use sure_sink::SureSink;
 pub use word::Word;
 pub use word_form::{is_name, is_word};
 pub use words::Words;
-
-#[cfg(test)]
-mod tests;

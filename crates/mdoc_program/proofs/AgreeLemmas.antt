@@ -14,7 +14,8 @@ use Rattle.consent.specs.Wish.{Wanted}
 use Rattle.consent.specs.declared.rule.Rule.{Rule}
 use Rattle.doc_request.specs.declared.doc_draft.DocDraft.{DocDraft}
 use Rattle.doc_request.specs.declared.wish_draft.WishDraft.{WishDraft}
-use Rattle.mdoc_program.specs.Core.{Answered, item_given, is_missing, full_name, answered, core_bytes, core}
+use Rattle.doc_response.specs.Answered.{Answered}
+use Rattle.mdoc_program.specs.Core.{item_given, is_missing, full_name, answered, core_bytes, core}
 use Rattle.mdoc_program.specs.Released.{wanted_of, wishes_in, shown_copy, answer, released_place, released_places}
 
 -- ---- lists whose elements are alike

@@ -6,20 +6,22 @@ use Rattle.doc_store.specs.Store.{Store, store}
 use Rattle.consent.specs.declared.rule.Rule.{Rule}
 use Rattle.doc_request.specs.declared.doc_draft.DocDraft.{DocDraft}
 use Rattle.mdoc_program.specs.Agreeing.{Agreeing, IsStoreFile, store_found, with_store}
+use Rattle.mdoc_program.specs.Asking.{Talks}
 use Rattle.mdoc_program.specs.Commands.{outcome}
 use Rattle.mdoc_program.specs.Content.{Content, OfRules, OfStore, OfWishes, content_of, store_file}
 use Rattle.mdoc_program.specs.Core.{core}
 use Rattle.mdoc_program.specs.Draft.{draft_files, draft_line, draft_outcome}
+use Rattle.mdoc_program.specs.Issue.{issue_files}
 use Rattle.mdoc_program.specs.Order.{Order, is_in_form, needed_file, row, value_of}
 use Rattle.mdoc_program.specs.Outcome.{Answer, Failed, FileName, Found, Outcome, after_reads, files_named, if_opened}
 use Rattle.mdoc_program.specs.Printed.{core_line}
 use Rattle.mdoc_program.specs.Released.{released_places}
 use Rattle.mdoc_program.specs.declared.command.Command.{Command}
-use Rattle.mdoc_program.specs.declared.command.Command.TheVariants.{Draft}
+use Rattle.mdoc_program.specs.declared.command.Command.TheVariants.{Draft, Issue}
 use Rattle.mdoc_program.specs.declared.role.Role.TheVariants as roles
 use Rattle.mdoc_program.specs.declared.status.Status.{Status}
 use Rattle.mdoc_program.proofs.AgreeLemmas.{core_same}
-use Rattle.mdoc_program.proofs.OrderLemmas.{draft_files_named, given}
+use Rattle.mdoc_program.proofs.OrderLemmas.{draft_files_named, given, issue_file, no_issue_file}
 use Rattle.mdoc_program.proofs.OrderRun.{in_form}
 
 -- where the files agree up to what the one outcome releases, the other prints the same lines
@@ -98,8 +100,8 @@ draft-agreeing store_name wishes rules ((Found (Some bytes)) ∷ answers) one ot
 -- over all orders
 abbrev AgreesFor : Order → Type 0
 AgreesFor o =
-    (answers : List Answer) (one other : List ℕ) → store_found (files_named o) answers ≡ Some one → IsStoreFile one → IsStoreFile other →
-    FilesAgree one other (outcome o answers).released → (outcome o (with_store (files_named o) answers other)).lines ≡ (outcome o answers).lines
+    (told : Talks) (answers : List Answer) (one other : List ℕ) → store_found (files_named o) answers ≡ Some one → IsStoreFile one → IsStoreFile other →
+    FilesAgree one other (outcome o told answers).released → (outcome o told (with_store (files_named o) answers other)).lines ≡ (outcome o told answers).lines
 
 draft-for : (words : List (List ℕ)) (store_name wishes rules : Option (List ℕ)) → is_in_form (row Draft) words ≡ true →
     value_of (codes "--store") words ≡ store_name → value_of (codes "--wishes") words ≡ wishes → value_of (codes "--rules") words ≡ rules →
@@ -113,13 +115,26 @@ draft-for words (Some store_name) (Some wishes) None form store_is wishes_is rul
 draft-for words (Some store_name) (Some wishes) (Some rules) form store_is wishes_is rules_is =
     let files : files_named (record { command = Draft; words = words }) ≡ draft_files store_name wishes rules =
     draft_files_named words store_name wishes rules (sym store_is) (sym wishes_is) (sym rules_is) in
-    λ answers one other found first second agree.
+    λ told answers one other found first second agree.
     ap (λ (l : List FileName). lines_with l answers other) files
     ∙ draft-agreeing store_name wishes rules answers one other (ap (λ (l : List FileName). store_found l answers) (sym files) ∙ found) first second
     (subst (λ (l : List FileName). FilesAgree one other (after_reads l answers draft_outcome).released) files agree)
     ∙ sym (ap (λ (l : List FileName). (after_reads l answers draft_outcome).lines) files)
 
+-- `issue` reads no store
+no-store : (spec : List ℕ) (answers : List Answer) (one : List ℕ) → store_found (issue_files spec) answers ≡ Some one → ⊥
+no-store spec [] one found = cc
+no-store spec (answer ∷ answers) one found = cc
+
+no-file-store : (answers : List Answer) (one : List ℕ) → store_found [] answers ≡ Some one → ⊥
+no-file-store answers one found = cc
+
+issue-for : (words : List (List ℕ)) (spec : Option (List ℕ)) → value_of (codes "--spec") words ≡ spec → AgreesFor (record { command = Issue; words = words })
+issue-for words None is = λ told answers one other found first second agree. absurd (no-file-store answers one (ap (λ (l : List FileName). store_found l answers) (sym (no_issue_file words is)) ∙ found))
+issue-for words (Some spec) is = λ told answers one other found first second agree. absurd (no-store spec answers one (ap (λ (l : List FileName). store_found l answers) (sym (issue_file words spec is)) ∙ found))
+
 agrees-for : (command : Command) (words : List (List ℕ)) → is_in_form (row command) words ≡ true → AgreesFor (record { command = command; words = words })
+agrees-for Issue words form = issue-for words (value_of (codes "--spec") words) refl
 agrees-for Draft words form =
     draft-for words (value_of (codes "--store") words) (value_of (codes "--wishes") words) (value_of (codes "--rules") words) form refl refl refl
 

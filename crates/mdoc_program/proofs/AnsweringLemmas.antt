@@ -2,7 +2,7 @@
 use Rattle.std.proofs.Common.{◌≡◌, ℕ, ◌+◌, ◌<◌, List, [], ◌∷◌, ◌++◌, length, map, get_or, drop, take, Option, Some, None, cond, sym, ap, ◌∙◌, append_assoc}
 use Rattle.std.specs.Prelude.{filter, filter_map, slice_get, is_none, option_map}
 use Rattle.std.specs.List.{cons_option}
-use Rattle.std.proofs.lemmas.List.{append-nil, map_push, map_more}
+use Rattle.std.proofs.lemmas.List.{append-nil, map_more}
 use Rattle.doc_store.specs.Held.{IsAt, document_place, chosen}
 use Rattle.doc_store.specs.Store.{Copy, Document, Store}
 use Rattle.mdoc_outside.specs.OptionSteps.{◌>>=◌}
@@ -10,8 +10,9 @@ use Rattle.consent.specs.Wish.{Wanted}
 use Rattle.consent.specs.declared.rule.Rule.{Rule}
 use Rattle.doc_request.specs.declared.doc_draft.DocDraft.{DocDraft}
 use Rattle.doc_request.specs.declared.wish_draft.WishDraft.{WishDraft}
+use Rattle.doc_response.specs.Answered.{Answered}
 use Rattle.mdoc_program.specs.AnsweredDocument.{with_answer}
-use Rattle.mdoc_program.specs.Core.{Answered, item_given, is_missing, full_name, with_namespace, answered, answered_with}
+use Rattle.mdoc_program.specs.Core.{item_given, is_missing, full_name, with_namespace, answered, answered_with}
 use Rattle.mdoc_program.specs.Released.{answer, shown_copy, wanted_of, wishes_in}
 
 -- no copy is shown where there is no document of the type
@@ -77,9 +78,9 @@ answered_of_shown rules documents copy doc_type asked type_is copy_is =
     ∙ ap (λ (text : List ℕ). answered_with rules None (shown_copy documents text) asked) type_is
 
 -- a list of answers that has one more
-pub one_answer_more : {X Y A : Type 0} (seen : X → Y) (answer_to : A → Y) (answers more : List X) (last : X) (asked : List A) (i : ℕ) (d : A) →
-    i < length asked → map seen answers ≡ map answer_to (take i asked) → seen last ≡ answer_to (get_or asked i d) →
-    more ≡ answers ++ last ∷ [] → map seen more ≡ map answer_to (take (i + 1) asked)
-one_answer_more {X} {Y} {A} seen answer_to answers more last asked i d bound so_far this more_is =
-    ap (map seen) more_is ∙ map_push seen answers last ∙ ap (λ (l : List Y). l ++ seen last ∷ []) so_far
+pub one_answer_more : {Y A : Type 0} (answer_to : A → Y) (answers more : List Y) (last : Y) (asked : List A) (i : ℕ) (d : A) →
+    i < length asked → answers ≡ map answer_to (take i asked) → last ≡ answer_to (get_or asked i d) →
+    more ≡ answers ++ last ∷ [] → more ≡ map answer_to (take (i + 1) asked)
+one_answer_more {Y} {A} answer_to answers more last asked i d bound so_far this more_is =
+    more_is ∙ ap (λ (l : List Y). l ++ last ∷ []) so_far
     ∙ ap (λ (y : Y). map answer_to (take i asked) ++ y ∷ []) this ∙ sym (map_more answer_to asked i d bound)

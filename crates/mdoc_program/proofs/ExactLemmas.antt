@@ -17,10 +17,11 @@ use Rattle.consent.specs.declared.rule.Rule.{Rule}
 use Rattle.doc_request.specs.Draft.{are_distinct, is_same_element}
 use Rattle.doc_request.specs.declared.doc_draft.DocDraft.{DocDraft}
 use Rattle.doc_request.specs.declared.wish_draft.WishDraft.{WishDraft}
-use Rattle.mdoc_program.specs.Core.{item_given, is_missing, full_name, with_namespace, has_text, firsts, of_namespace, grouped}
+use Rattle.doc_response.specs.Answered.{firsts, grouped, has_text, of_namespace}
+use Rattle.doc_response.specs.Namespaces.{count_of_text}
+use Rattle.mdoc_program.specs.Core.{item_given, is_missing, full_name, with_namespace}
 use Rattle.mdoc_program.specs.Exact.{IsReleasedFor, IsRefused, IsReleased, IsMissing, StandsOnce, is_of_namespace, OnlyReleased, EachReleasedOnce, OnlyMissing, EachMissingOnce}
 use Rattle.mdoc_program.specs.Released.{answer, shown_copy, wanted_of, wishes_in}
-use Rattle.mdoc_program.specs.Texts.{count_of_text}
 
 -- ---- texts
 

@@ -1,5 +1,5 @@
 -- Where each status comes.
-use Rattle.std.proofs.Common.{◌≡◌, ℕ, true, false, cond, List, [], ◌∷◌, ◌++◌, map, Option, Some, None, Result, Ok, Err, inl, inr, refl, ap, subst, ◌∙◌}
+use Rattle.std.proofs.Common.{◌≡◌, ℕ, true, false, cond, List, [], ◌∷◌, ◌++◌, map, Option, Some, None, Result, Ok, Err, inl, inr, refl, ap, subst, ◌⊎◌, ◌∙◌}
 use Rattle.std.specs.Prelude.{length, nat_le, option_map, ◌↔◌}
 use Rattle.doc_store.specs.Faults.{store_fault}
 use Rattle.doc_store.specs.declared.first_fault.Fault.{Fault}
@@ -10,12 +10,20 @@ use Rattle.mdoc_outside.specs.declared.limit_name.LimitName.TheVariants.{FileByt
 use Rattle.mdoc_outside.specs.declared.sink_call.SinkCall.{SinkCall}
 use Rattle.mdoc_outside.specs.declared.sink_call.SinkCall.TheVariants.{Put}
 use Rattle.consent.specs.Rules.{rules_of}
+use Rattle.mdoc_program.specs.Asking.{Talks}
 use Rattle.mdoc_program.specs.Commands.{outcome, work_of}
-use Rattle.mdoc_program.specs.Content.{Content, StoreFile, check_status, form, content_of, or_bad_line, or_status, store_file, without_fault}
+use Rattle.mdoc_program.specs.Content.{Content, StoreFile, check_status, form, content_of, or_bad_line, or_spec_fault, or_status, spec_status, store_file, without_fault}
 use Rattle.mdoc_program.specs.Exactly.{AtFirst, CabinetExactly, DoneOnlyOpened, DonePrintsAll, FormExactly, IsAbsent, IsRefused, LimitExactly, MissingExactly}
 use Rattle.mdoc_program.specs.Order.{Order}
 use Rattle.mdoc_program.specs.Outcome.{Answer, Failed, FileName, Found, Outcome, after_reads, files_named, if_opened}
-use Rattle.mdoc_program.specs.Run.{AreOpened, End, FileFailed, IsComplete, LineFailed, Stop, Wanting, put_calls, status_at}
+use Rattle.mdoc_program.specs.Run.{AreOpened, AsksAfter, End, FileFailed, LineFailed, Stop, Wanting, if_asked, put_calls, status_at}
+use Rattle.issuing.specs.SpecFile.{spec_of}
+use Rattle.issuing.specs.declared.spec_check.SpecCheck.{SpecCheck}
+use Rattle.issuing.specs.declared.spec_check.SpecCheck.TheVariants as specs
+use Rattle.issuing.specs.declared.spec_fault.SpecFault.{SpecFault}
+use Rattle.issuing.specs.declared.spec_fault.SpecFault.TheVariants as spec_faults
+use Rattle.issuing.specs.declared.spec_fields.SpecFields.{SpecFields}
+use Rattle.mdoc_outside.specs.declared.limit_name.LimitName.{LimitName}
 use Rattle.mdoc_program.specs.Wishes.{wishes_of}
 use Rattle.mdoc_program.specs.declared.file_fault.FileFault.{FileFault}
 use Rattle.mdoc_program.specs.declared.file_fault.FileFault.TheVariants as faults
@@ -23,7 +31,7 @@ use Rattle.mdoc_program.specs.declared.role.Role.{Role}
 use Rattle.mdoc_program.specs.declared.role.Role.TheVariants as roles
 use Rattle.mdoc_program.specs.declared.status.Status.{Status}
 use Rattle.mdoc_program.specs.declared.status.Status.TheVariants as statuses
-use Rattle.mdoc_program.proofs.CommandLemmas.{completes}
+use Rattle.mdoc_program.proofs.CommandLemmas.{IsEnd, work_ends}
 
 -- ---- the first file that isn't opened
 
@@ -57,10 +65,10 @@ module _ (status : Status) (P : FileName → Answer → Type 0) (to : (file : Fi
       ap (λ (r : Result Content Status). (if_opened r (λ content. after_reads files answers (λ contents. work (content ∷ contents)))).status) later.0.1
       ∙ there files answers (λ contents. work (later.0.0 ∷ contents)) later.1
 
-  exactly : (o : Order) (answers : List Answer) → (IsComplete status → ⊥) → ((outcome o answers).status ≡ status) ↔ AtFirst P (files_named o) answers
-  exactly o answers incomplete = (
-    only (files_named o) answers (work_of o.command) (λ contents is. incomplete (subst IsComplete is (completes o.command contents))),
-    there (files_named o) answers (work_of o.command),
+  exactly : (o : Order) (told : Talks) (answers : List Answer) → (IsEnd o.command status → ⊥) → ((outcome o told answers).status ≡ status) ↔ AtFirst P (files_named o) answers
+  exactly o told answers no_end = (
+    only (files_named o) answers (work_of o.command o.words told) (λ contents is. no_end (subst (IsEnd o.command) is (work_ends o.command o.words told contents))),
+    there (files_named o) answers (work_of o.command o.words told),
   )
 
 -- ---- what is told of a file that is there: its form, or a limit
@@ -93,10 +101,22 @@ rules-form : {A : Type 0} (role : Role) (content : A → Content) (read : Result
 rules-form role content (Ok value) = tt
 rules-form role content (Err number) = tt
 
+spec-form : (read : Result SpecFields SpecFault) → IsOfForm (or_spec_fault read)
+spec-form (Ok fields) = tt
+spec-form (Err (spec_faults.Form check number)) = of_check check where
+  of_check : (check : SpecCheck) → IsOfForm (Err (spec_status number check))
+  of_check specs.Line = tt
+  of_check (specs.Row found) = tt
+  of_check (specs.Missing row) = tt
+  of_check specs.Order = tt
+  of_check (specs.Limit limit passed) = tt
+spec-form (Err spec_faults.Memory) = tt
+
 of-form : (role : Role) (bytes : List ℕ) → IsOfForm (form role bytes)
 of-form roles.Store bytes = store-form (store_fault bytes) (store_file bytes)
 of-form roles.Wishes bytes = lines-form roles.Wishes _ (wishes_of bytes)
 of-form roles.Rules bytes = rules-form roles.Rules _ (rules_of bytes)
+of-form roles.Spec bytes = spec-form (spec_of bytes)
 of-form role bytes = tt
 
 of-file : (role : Role) (bytes : List ℕ) → IsOfForm (content_of role (Some bytes))
@@ -120,7 +140,7 @@ from-absent role file (Found (Some bytes)) absent = let e = absent.1 in absurd c
 from-absent role file Failed absent = let e = absent.1 in absurd cc
 
 pub missing_exactly : MissingExactly
-missing_exactly o answers role = exactly (statuses.Missing role) (IsAbsent role) (to-absent role) (from-absent role) (λ e. cc) o answers (λ h. h)
+missing_exactly o told answers role = exactly (statuses.Missing role) (IsAbsent role) (to-absent role) (from-absent role) (λ e. cc) o told answers (λ h. h)
 
 to-refused : (status : Status) → (statuses.Cabinet ≡ status → ⊥) → (file : FileName) (answer : Answer) → Ends status file answer → IsRefused status file answer
 to-refused status other file (Found found) ends = ends
@@ -131,12 +151,53 @@ from-refused status file (Found found) refused = refused
 from-refused status file Failed refused = absurd refused
 
 pub form_exactly : FormExactly
-form_exactly o answers role check at =
-    exactly (statuses.Form role check at) (IsRefused (statuses.Form role check at)) (to-refused _ (λ e. cc)) (from-refused _) (λ e. cc) o answers (λ h. h)
+form_exactly o told answers role check at =
+    exactly (statuses.Form role check at) (IsRefused (statuses.Form role check at)) (to-refused _ (λ e. cc)) (from-refused _) (λ e. cc) o told answers (λ h. h)
+
+-- a limit that a file or the work passes
+module _ (limit : LimitName) (number : ℕ) where
+  abbrev AtWork : List FileName → List Answer → (List Content → Outcome) → Type 0
+  AtWork files answers work = AsksAfter files answers (λ contents. (work contents).status ≡ statuses.Limit limit number) ⊥
+
+  to-limit : (files : List FileName) (answers : List Answer) (work : List Content → Outcome) → (after_reads files answers work).status ≡ statuses.Limit limit number →
+      AtFirst (IsRefused (statuses.Limit limit number)) files answers ⊎ AtWork files answers work
+  to-limit [] answers work is = inr is
+  to-limit (file ∷ files) [] work is = absurd cc
+  to-limit (file ∷ files) (Failed ∷ answers) work is = absurd cc
+  to-limit (file ∷ files) ((Found found) ∷ answers) work is =
+      elim (content_of file.role found) as (λ r. content_of file.role found ≡ r →
+      (if_opened r (λ content. after_reads files answers (λ contents. work (content ∷ contents)))).status ≡ statuses.Limit limit number →
+      AtFirst (IsRefused (statuses.Limit limit number)) (file ∷ files) (Found found ∷ answers)
+      ⊎ if_asked r (λ content. AtWork files answers (λ contents. work (content ∷ contents))) ⊥) [
+        | Ok content ↦ λ gives e. later content gives (to-limit files answers (λ contents. work (content ∷ contents)) e)
+        | Err other ↦ λ gives e. inl (inl (gives ∙ ap Err e))
+      ] refl is where
+        later : (content : Content) → content_of file.role found ≡ Ok content →
+            AtFirst (IsRefused (statuses.Limit limit number)) files answers ⊎ AtWork files answers (λ contents. work (content ∷ contents)) →
+            AtFirst (IsRefused (statuses.Limit limit number)) (file ∷ files) (Found found ∷ answers) ⊎ AtWork files answers (λ contents. work (content ∷ contents))
+        later content gives (inl first) = inl (inr ((content, gives), first))
+        later content gives (inr at) = inr at
+
+  at-work : (files : List FileName) (answers : List Answer) (work : List Content → Outcome) → AtWork files answers work → (after_reads files answers work).status ≡ statuses.Limit limit number
+  at-work [] answers work at = at
+  at-work (file ∷ files) [] work at = absurd at
+  at-work (file ∷ files) (Failed ∷ answers) work at = absurd at
+  at-work (file ∷ files) ((Found found) ∷ answers) work at =
+      elim (content_of file.role found) as (λ r. if_asked r (λ content. AtWork files answers (λ contents. work (content ∷ contents))) ⊥ →
+      (if_opened r (λ content. after_reads files answers (λ contents. work (content ∷ contents)))).status ≡ statuses.Limit limit number) [
+        | Ok content ↦ λ later. at-work files answers (λ contents. work (content ∷ contents)) later
+        | Err other ↦ λ later. absurd later
+      ] at
+
+  from-limit : (files : List FileName) (answers : List Answer) (work : List Content → Outcome) →
+      AtFirst (IsRefused (statuses.Limit limit number)) files answers ⊎ AtWork files answers work → (after_reads files answers work).status ≡ statuses.Limit limit number
+  from-limit files answers work (inl first) =
+      there (statuses.Limit limit number) (IsRefused (statuses.Limit limit number)) (to-refused _ (λ e. cc)) (from-refused _) (λ e. cc) files answers work first
+  from-limit files answers work (inr at) = at-work files answers work at
 
 pub limit_exactly : LimitExactly
-limit_exactly o answers limit number =
-    exactly (statuses.Limit limit number) (IsRefused (statuses.Limit limit number)) (to-refused _ (λ e. cc)) (from-refused _) (λ e. cc) o answers (λ h. h)
+limit_exactly o told answers limit number =
+    (to-limit limit number (files_named o) answers (work_of o.command o.words told), from-limit limit number (files_named o) answers (work_of o.command o.words told))
 
 to-failed : (file : FileName) (answer : Answer) → Ends statuses.Cabinet file answer → answer ≡ Failed
 to-failed file (Found None) ends = absurd cc
@@ -148,7 +209,7 @@ from-failed file (Found found) is = absurd cc
 from-failed file Failed is = refl
 
 pub cabinet_exactly : CabinetExactly
-cabinet_exactly o answers = exactly statuses.Cabinet (λ file answer. answer ≡ Failed) to-failed from-failed (λ e. cc) o answers (λ h. h)
+cabinet_exactly o told answers = exactly statuses.Cabinet (λ file answer. answer ≡ Failed) to-failed from-failed (λ e. cc) o told answers (λ h. h)
 
 done-opened : (files : List FileName) (answers : List Answer) (work : List Content → Outcome) → (after_reads files answers work).status ≡ statuses.Done → AreOpened files answers
 done-opened [] answers work is = tt
@@ -163,7 +224,7 @@ done-opened (file ∷ files) ((Found (Some bytes)) ∷ answers) work is =
     ] refl is
 
 pub done_only_opened : DoneOnlyOpened
-done_only_opened o answers is = done-opened (files_named o) answers (work_of o.command) is
+done_only_opened o told answers is = done-opened (files_named o) answers (work_of o.command o.words told) is
 
 done-prints : (stop : Stop) (outcome : Outcome) (told now : Option (List SinkCall)) → statuses.Done ≡ status_at stop outcome →
     now ≡ option_map (λ (calls : List SinkCall). calls ++ put_calls stop outcome) told → now ≡ option_map (λ (calls : List SinkCall). calls ++ map Put outcome.lines) told
@@ -173,4 +234,4 @@ done-prints (LineFailed lines line) outcome told now is printed = absurd cc
 done-prints (Wanting files lines) outcome told now is printed = absurd cc
 
 pub done_prints_all : DonePrintsAll
-done_prints_all o before now runs = done-prints runs.run.stop (outcome o runs.run.answers) before.sink.told now.sink.told runs.run.answer runs.run.printed
+done_prints_all o before now from to runs = done-prints runs.run.stop (outcome o runs.told runs.run.answers) before.sink.told now.sink.told runs.run.answer runs.run.printed

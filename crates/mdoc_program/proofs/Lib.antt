@@ -5,7 +5,7 @@ pub mod CoreWritten
 pub mod ExactLemmas
 pub mod ExactlyLemmas
 pub mod FileFaults
-pub mod FirstsLemmas
+pub mod IssueLemmas
 pub mod NumberLemmas
 pub mod OrderLemmas
 pub mod ReleasedLemmas
@@ -15,4 +15,3 @@ pub mod StepLemmas
 pub mod CommandLemmas
 pub mod OrderRun
 pub mod WishNames
-pub mod WriterLemmas

@@ -10,9 +10,10 @@ use Rattle.mdoc_outside.specs.declared.cabinet_call.CabinetCall.TheVariants.{Rea
 use Rattle.mdoc_outside.specs.declared.sink_call.SinkCall.{SinkCall}
 use Rattle.mdoc_outside.specs.declared.sink_call.SinkCall.TheVariants.{Put, PutFailed}
 use Rattle.doc_store.specs.Held.{Place}
+use Rattle.mdoc_program.specs.Asking.{AreSame, AskCauses, IsGained, Sources, Talks, no_talks}
 use Rattle.mdoc_program.specs.Content.{Content, content_of}
 use Rattle.mdoc_program.specs.Outcome.{Answer, Found, Failed, FileName, Outcome, after_reads, if_opened, only_status}
-use Rattle.mdoc_program.specs.Run.{AreHeld, Causes, End, FileFailed, IsFront, IsPlace, IsRun, LineFailed, Stop, Wanting, put_calls, read_calls, status_at, unless_refused, write_calls}
+use Rattle.mdoc_program.specs.Run.{AreHeld, AsksAfter, Causes, End, FileFailed, IsFront, IsPlace, IsRun, LineFailed, Stop, Wanting, if_asked, put_calls, read_calls, status_at, unless_refused, write_calls}
 use Rattle.mdoc_program.specs.Steps.{Does, Gives, IsRead, OrMemory, Prints, PutEnds, ReadEnds, WriteEnds, WritesFiles}
 use Rattle.mdoc_program.specs.World.{World, after_put, after_read, after_write, files_with, told_with, world}
 use Rattle.mdoc_program.specs.declared.status.Status.{Status}
@@ -60,6 +61,8 @@ work-causes (statuses.Missing role) c0 c1 s0 s1 work c s = (c, s)
 work-causes statuses.Cabinet c0 c1 s0 s1 work c s = absurd cc
 work-causes (statuses.Form role check at) c0 c1 s0 s1 work c s = (c, s)
 work-causes statuses.Sink c0 c1 s0 s1 work c s = absurd cc
+work-causes statuses.Device c0 c1 s0 s1 work c s = (c, s)
+work-causes statuses.Dice c0 c1 s0 s1 work c s = (c, s)
 work-causes (statuses.Limit limit number) c0 c1 s0 s1 work c s = (c, s)
 work-causes statuses.Memory c0 c1 s0 s1 work c s = (c, s)
 
@@ -121,6 +124,8 @@ last-is last released before now (statuses.Missing role) work same is = all-done
 last-is last released before now statuses.Cabinet work same is = all-done last released before now statuses.Cabinet work same is
 last-is last released before now (statuses.Form role check at) work same is = all-done last released before now (statuses.Form role check at) work same is
 last-is last released before now statuses.Sink work same is = all-done last released before now statuses.Sink work same is
+last-is last released before now statuses.Device work same is = all-done last released before now statuses.Device work same is
+last-is last released before now statuses.Dice work same is = all-done last released before now statuses.Dice work same is
 last-is last released before now (statuses.Limit limit number) work same is = all-done last released before now (statuses.Limit limit number) work same is
 last-is last released before now statuses.Memory work same is = want_of_memory (of_work last [] [] released) before now same
 
@@ -146,6 +151,8 @@ put-ends line lines last released before now statuses.Done same ends = absurd en
 put-ends line lines last released before now statuses.Usage same ends = absurd ends
 put-ends line lines last released before now (statuses.Missing role) same ends = absurd ends
 put-ends line lines last released before now statuses.Cabinet same ends = absurd ends
+put-ends line lines last released before now statuses.Device same ends = absurd ends
+put-ends line lines last released before now statuses.Dice same ends = absurd ends
 put-ends line lines last released before now (statuses.Form role check at) same ends = absurd ends
 put-ends line lines last released before now (statuses.Limit limit number) same ends = absurd ends
 
@@ -237,6 +244,8 @@ write-ends file files lines last released before now statuses.Done ends = absurd
 write-ends file files lines last released before now statuses.Usage ends = absurd ends
 write-ends file files lines last released before now (statuses.Missing role) ends = absurd ends
 write-ends file files lines last released before now statuses.Sink ends = absurd ends
+write-ends file files lines last released before now statuses.Device ends = absurd ends
+write-ends file files lines last released before now statuses.Dice ends = absurd ends
 write-ends file files lines last released before now (statuses.Form role check at) ends = absurd ends
 write-ends file files lines last released before now (statuses.Limit limit number) ends = absurd ends
 
@@ -425,6 +434,8 @@ read-ends file files work before now (statuses.Missing role) ends same = read-re
 read-ends file files work before now statuses.Cabinet ends same = read-failed file files work before now ends same
 read-ends file files work before now (statuses.Form role check at) ends same = read-refused file files work before now (statuses.Form role check at) refl ends same
 read-ends file files work before now statuses.Sink ends same = absurd ends
+read-ends file files work before now statuses.Device ends same = absurd ends
+read-ends file files work before now statuses.Dice ends same = absurd ends
 read-ends file files work before now (statuses.Limit limit number) ends same = read-refused file files work before now (statuses.Limit limit number) refl ends same
 read-ends file files work before now statuses.Memory (inl unread) same = read-unread file files work before now unread same
 read-ends file files work before now statuses.Memory (inr read) same = read-wanted file files work before now read same
@@ -449,21 +460,110 @@ read-more file files work before now status found content held is rest =
       printed = rest.printed;
     })
 
--- Steps that are done one after the other are a run, for a work that tells no fault of the outside.
-pub does_run : (files : List FileName) (work : List Content → Outcome) (before now : World) (status : Status) → ((contents : List Content) → is_work (work contents).status ≡ true) →
-    Does files work before now status → IsRun files work before now status
-does_run [] work before now status works does =
-    let done = writes-work (work []).files (work []).lines (work []).status (work []).released before now status (works []) does in record {
-      answers = [];
-      stop = done.stop;
-      held = tt;
-      answer = done.answer;
-      place = done.place;
-      causes = done.causes;
-      written = done.written;
-      printed = done.printed;
+-- ---- what is asked
+
+-- a run with what was asked in it
+pub record IsRunAsking (files : List FileName) (work : Talks → List Content → Outcome) (asks : Talks → Status → List Content → Type 0)
+    (from to : Sources) (before now : World) (status : Status) : Type 0 where
+  pub told : Talks
+  pub gained : IsGained from.talks told to.talks
+  pub run : IsRun files (work told) before now status
+  pub asked : AsksAfter files run.answers (asks told status) (told ≡ no_talks)
+  pub asking : AskCauses status from to
+
+pub gained-nothing : (talks : Talks) → IsGained talks no_talks talks
+gained-nothing talks = record { wallet = sym (append-nil talks.wallet); reader = sym (append-nil talks.reader); words = sym (append-nil talks.words) }
+
+pub same-sources : (from : Sources) → AreSame from from
+same-sources from = record { wallet = refl; reader = refl; dice = refl }
+
+-- where a file isn't opened no device and no dice failed
+read-asking : (file : FileName) (old new : State CabinetTold) (status : Status) (from : Sources) → ReadEnds file old new status → AskCauses status from from
+read-asking file old new statuses.Done from ends = absurd ends
+read-asking file old new statuses.Usage from ends = absurd ends
+read-asking file old new (statuses.Missing role) from ends = same-sources from
+read-asking file old new statuses.Cabinet from ends = same-sources from
+read-asking file old new (statuses.Form role check at) from ends = same-sources from
+read-asking file old new statuses.Sink from ends = absurd ends
+read-asking file old new statuses.Device from ends = absurd ends
+read-asking file old new statuses.Dice from ends = absurd ends
+read-asking file old new (statuses.Limit limit number) from ends = same-sources from
+read-asking file old new statuses.Memory from ends = same-sources from
+
+-- a file that was refused
+refused-asks : (file : FileName) (files : List FileName) (found : Option (List ℕ)) (status : Status) (asks : List Content → Type 0) →
+    content_of file.role found ≡ Err status → AsksAfter (file ∷ files) (Found found ∷ []) asks (no_talks ≡ no_talks)
+refused-asks file files found status asks is =
+    subst (λ (r : Result Content Status). if_asked r (λ content. AsksAfter files [] (λ contents. asks (content ∷ contents)) (no_talks ≡ no_talks)) (no_talks ≡ no_talks)) (sym is) refl
+
+none-asks : (files : List FileName) (asks : List Content → Type 0) → ((contents : List Content) → asks contents) → AsksAfter files [] asks (no_talks ≡ no_talks)
+none-asks [] asks wanting = wanting []
+none-asks (file ∷ files) asks wanting = refl
+
+wanted-asks : (file : FileName) (files : List FileName) (found : Option (List ℕ)) (asks : List Content → Type 0) → ((contents : List Content) → asks contents) →
+    AsksAfter (file ∷ files) (Found found ∷ []) asks (no_talks ≡ no_talks)
+wanted-asks file files found asks wanting =
+    elim (content_of file.role found) as (λ r. if_asked r (λ content. AsksAfter files [] (λ contents. asks (content ∷ contents)) (no_talks ≡ no_talks)) (no_talks ≡ no_talks)) [
+      | Ok content ↦ none-asks files (λ contents. asks (content ∷ contents)) (λ contents. wanting (content ∷ contents))
+      | Err status ↦ refl
+    ]
+
+read-asks : (file : FileName) (files : List FileName) (work : List Content → Outcome) (asks : Status → List Content → Type 0) (before now : World) (status : Status) →
+    (ends : ReadEnds file before.cabinet now.cabinet status) (same : now.sink ≡ before.sink) → ((contents : List Content) → asks statuses.Memory contents) →
+    AsksAfter (file ∷ files) (read-ends file files work before now status ends same).answers (asks status) (no_talks ≡ no_talks)
+unfolding read-ends read-refused as-run_by as-run read-failed read-unread read-wanted
+read-asks file files work asks before now statuses.Done ends same wanting = absurd ends
+read-asks file files work asks before now statuses.Usage ends same wanting = absurd ends
+read-asks file files work asks before now (statuses.Missing role) ends same wanting = refused-asks file files ends.found _ (asks (statuses.Missing role)) ends.gives
+read-asks file files work asks before now statuses.Cabinet ends same wanting = refl
+read-asks file files work asks before now (statuses.Form role check at) ends same wanting = refused-asks file files ends.found _ (asks (statuses.Form role check at)) ends.gives
+read-asks file files work asks before now statuses.Sink ends same wanting = absurd ends
+read-asks file files work asks before now statuses.Device ends same wanting = absurd ends
+read-asks file files work asks before now statuses.Dice ends same wanting = absurd ends
+read-asks file files work asks before now (statuses.Limit limit number) ends same wanting = refused-asks file files ends.found _ (asks (statuses.Limit limit number)) ends.gives
+read-asks file files work asks before now statuses.Memory (inl unread) same wanting = refl
+read-asks file files work asks before now statuses.Memory (inr read) same wanting = wanted-asks file files read.found (asks statuses.Memory) wanting
+
+-- Steps that are done one after the other are a run, for a work that tells no fault of cabinet and sink, and that asks
+-- nothing where memory is wanting before it.
+pub does_run : (files : List FileName) (work : Talks → List Content → Outcome) (asks : Talks → Status → List Content → Type 0)
+    (from to : Sources) (before now : World) (status : Status) →
+    ((told : Talks) (contents : List Content) → is_work (work told contents).status ≡ true) →
+    ((contents : List Content) → asks no_talks statuses.Memory contents) →
+    Does files work asks from to before now status → IsRunAsking files work asks from to before now status
+unfolding read-more as-run_by as-run
+does_run [] work asks from to before now status works wanting (told, gained, asked, asking, ends) =
+    let outcome = work told [] in
+    let done = writes-work outcome.files outcome.lines outcome.status outcome.released before now status (works told []) ends in record {
+      told = told;
+      gained = gained;
+      run = record {
+        answers = [];
+        stop = done.stop;
+        held = tt;
+        answer = done.answer;
+        place = done.place;
+        causes = done.causes;
+        written = done.written;
+        printed = done.printed;
+      };
+      asked = asked;
+      asking = asking;
     }
-does_run (file ∷ files) work before now status works (inl ends) = read-ends file files work before now status ends.0 ends.1
-does_run (file ∷ files) work before now status works (inr on) =
-    read-more file files work before now status on.found on.content on.held on.opens
-    (does_run files (λ contents. work (on.content ∷ contents)) (after_read file.name on.found before) now status (λ contents. works (on.content ∷ contents)) on.goes_on)
+does_run (file ∷ files) work asks from to before now status works wanting (inl ends) = record {
+  told = no_talks;
+  gained = subst (λ (s : Sources). IsGained from.talks no_talks s.talks) (sym ends.2) (gained-nothing from.talks);
+  run = read-ends file files (work no_talks) before now status ends.0 ends.1;
+  asked = read-asks file files (work no_talks) (asks no_talks) before now status ends.0 ends.1 wanting;
+  asking = subst (λ (s : Sources). AskCauses status from s) (sym ends.2) (read-asking file before.cabinet now.cabinet status from ends.0);
+}
+does_run (file ∷ files) work asks from to before now status works wanting (inr on) =
+    let rest = does_run files (λ told contents. work told (on.content ∷ contents)) (λ told s contents. asks told s (on.content ∷ contents)) from to
+    (after_read file.name on.found before) now status (λ told contents. works told (on.content ∷ contents)) (λ contents. wanting (on.content ∷ contents)) on.goes_on in record {
+      told = rest.told;
+      gained = rest.gained;
+      run = read-more file files (work rest.told) before now status on.found on.content on.held on.opens rest.run;
+      asked = subst (λ (r : Result Content Status). if_asked r (λ content. AsksAfter files rest.run.answers (λ contents. asks rest.told status (content ∷ contents)) (rest.told ≡ no_talks)) (rest.told ≡ no_talks))
+          (sym on.opens) rest.asked;
+      asking = rest.asking;
+    }

@@ -1,6 +1,7 @@
 -- Runs over stores that agree up to the released places.
 use Rattle.std.specs.Prelude.{◌≡◌, ℕ, List, [], ◌∷◌, Option, Some, None, Ok}
 use Rattle.doc_store.specs.Agreement.{FilesAgree}
+use Rattle.mdoc_program.specs.Asking.{Talks}
 use Rattle.mdoc_program.specs.Commands.{outcome}
 use Rattle.mdoc_program.specs.Content.{OfStore, content_of, store_file}
 use Rattle.mdoc_program.specs.Order.{Order, order}
@@ -37,7 +38,7 @@ IsStoreFile bytes = content_of roles.Store (Some bytes) ≡ Ok (OfStore (store_f
 -- of the released items.
 abbrev pub Agreeing : Type 0
 Agreeing =
-    (words : List (List ℕ)) (o : Order) → order words ≡ Some o → (answers : List Answer) (one other : List ℕ)
+    (words : List (List ℕ)) (o : Order) → order words ≡ Some o → (told : Talks) (answers : List Answer) (one other : List ℕ)
     → store_found (files_named o) answers ≡ Some one → IsStoreFile one → IsStoreFile other
-    → FilesAgree one other (outcome o answers).released
-    → (outcome o (with_store (files_named o) answers other)).lines ≡ (outcome o answers).lines
+    → FilesAgree one other (outcome o told answers).released
+    → (outcome o told (with_store (files_named o) answers other)).lines ≡ (outcome o told answers).lines

@@ -10,6 +10,12 @@ use Rattle.mdoc_outside.specs.declared.limit_name.LimitName.TheVariants.{FileByt
 use Rattle.consent.specs.Rules.{rules_of}
 use Rattle.consent.specs.declared.rule.Rule.{Rule}
 use Rattle.doc_request.specs.declared.doc_draft.DocDraft.{DocDraft}
+use Rattle.issuing.specs.SpecFile.{spec_of}
+use Rattle.issuing.specs.declared.spec_check.SpecCheck.{SpecCheck}
+use Rattle.issuing.specs.declared.spec_check.SpecCheck.TheVariants as specs
+use Rattle.issuing.specs.declared.spec_fault.SpecFault.{SpecFault}
+use Rattle.issuing.specs.declared.spec_fault.SpecFault.TheVariants as spec_faults
+use Rattle.issuing.specs.declared.spec_fields.SpecFields.{SpecFields}
 use Rattle.mdoc_program.specs.Wishes.{wishes_of}
 use Rattle.mdoc_program.specs.declared.file_fault.FileFault.{FileFault}
 use Rattle.mdoc_program.specs.declared.file_fault.FileFault.TheVariants as faults
@@ -32,6 +38,7 @@ pub data Content : Type 0 where
   OfStore : StoreFile → Content
   OfWishes : List DocDraft → Content
   OfRules : List Rule → Content
+  OfSpec : SpecFields → Content
   -- of a role that no command reads yet
   Unread : Content
 
@@ -69,11 +76,22 @@ abbrev pub without_fault : Option Fault → StoreFile → Result Content Status
 without_fault None file = Ok (OfStore file)
 without_fault (Some f) file = Err (fault_status f)
 
+-- what a spec file says, or the status of its first fault: a limit that is exceeded, or the check that fails, and the line
+abbrev pub spec_status : ℕ → SpecCheck → Status
+spec_status number (specs.Limit limit passed) = Limit limit passed
+spec_status number check = Form roles.Spec (checks.Spec check) number
+
+abbrev pub or_spec_fault : Result SpecFields SpecFault → Result Content Status
+or_spec_fault (Ok fields) = Ok (OfSpec fields)
+or_spec_fault (Err (spec_faults.Form check number)) = Err (spec_status number check)
+or_spec_fault (Err spec_faults.Memory) = Err Memory
+
 -- the form of a file
 abbrev pub form : Role → List ℕ → Result Content Status
 form roles.Store bytes = without_fault (store_fault bytes) (store_file bytes)
 form roles.Wishes text = or_status roles.Wishes OfWishes (wishes_of text)
 form roles.Rules text = or_bad_line roles.Rules OfRules (rules_of text)
+form roles.Spec text = or_spec_fault (spec_of text)
 form role bytes = Ok Unread
 
 -- What was found under a name gives: its reading, its length, its form.

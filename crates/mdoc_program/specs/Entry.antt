@@ -1,17 +1,14 @@
--- The entries of the core's maps, and their bytes.
-use Rattle.std.specs.Prelude.{ℕ, List, [], ◌∷◌, ◌++◌, map, filter, not, codes}
-use Rattle.cbor_view.specs.Shortest.{text_bytes, array_bytes, map_bytes}
-use Rattle.mdoc_program.specs.Core.{Answered, namespace_entry, grouped, optional, document_bytes, refused_bytes, is_empty}
-
--- the bytes of a map's entry: its key and its value
-abbrev pub entry_bytes : List ℕ × List ℕ → List ℕ
-entry_bytes entry = entry.0 ++ entry.1
+-- The entries of the core's maps.
+use Rattle.std.specs.Prelude.{ℕ, List, [], ◌∷◌, map, filter, not, codes}
+use Rattle.cbor_view.specs.Shortest.{text_bytes, array_bytes}
+use Rattle.doc_response.specs.Answered.{Answered, document_error, is_empty, items_map}
+use Rattle.mdoc_program.specs.Core.{optional, document_bytes}
 
 -- the entries of a document's type and of its released items
 abbrev pub given_entries : Answered → List (List ℕ × List ℕ)
 given_entries document =
     (text_bytes (codes "docType"), text_bytes document.doc_type)
-    ∷ (text_bytes (codes "nameSpaces"), map_bytes (map namespace_entry (grouped document.items))) ∷ []
+    ∷ (text_bytes (codes "nameSpaces"), items_map document.items) ∷ []
 
 -- the documents of which something is released, and those of which nothing is
 abbrev pub given_of : List Answered → List Answered
@@ -21,7 +18,7 @@ abbrev pub refused_of : List Answered → List Answered
 refused_of documents = filter is_empty documents
 
 abbrev pub refused_document : Answered → List ℕ
-refused_document document = refused_bytes document.doc_type
+refused_document document = document_error document.doc_type
 
 -- their entries
 abbrev pub documents_entry : List Answered → List (List ℕ × List ℕ)

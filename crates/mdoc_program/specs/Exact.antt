@@ -8,9 +8,10 @@ use Rattle.consent.specs.Wish.{Wanted}
 use Rattle.consent.specs.declared.rule.Rule.{Rule}
 use Rattle.doc_request.specs.Draft.{are_distinct}
 use Rattle.doc_request.specs.declared.doc_draft.DocDraft.{DocDraft}
-use Rattle.mdoc_program.specs.Core.{answered, grouped}
+use Rattle.doc_response.specs.Answered.{grouped}
+use Rattle.doc_response.specs.Namespaces.{count_of_text}
+use Rattle.mdoc_program.specs.Core.{answered}
 use Rattle.mdoc_program.specs.Released.{wishes_in, shown_copy}
-use Rattle.mdoc_program.specs.Texts.{count_of_text}
 
 -- A stored item is released for a wish: the wish is one of those asked, the rules allow it, and the copy that the
 -- store shows holds the item under the wish's namespace and name.

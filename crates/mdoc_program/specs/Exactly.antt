@@ -2,11 +2,12 @@
 use Rattle.std.specs.Prelude.{◌≡◌, ℕ, List, [], ◌∷◌, ◌++◌, map, None, option_map, Err, ◌↔◌, ◌⊎◌}
 use Rattle.mdoc_outside.specs.declared.limit_name.LimitName.{LimitName}
 use Rattle.mdoc_outside.specs.declared.sink_call.SinkCall.TheVariants.{Put}
-use Rattle.mdoc_program.specs.Commands.{outcome}
+use Rattle.mdoc_program.specs.Asking.{Sources, Talks}
+use Rattle.mdoc_program.specs.Commands.{outcome, work_of}
 use Rattle.mdoc_program.specs.Content.{content_of}
 use Rattle.mdoc_program.specs.Order.{Order}
 use Rattle.mdoc_program.specs.Outcome.{Answer, Failed, FileName, Found, files_named}
-use Rattle.mdoc_program.specs.Run.{AreOpened, IsOpened, Runs}
+use Rattle.mdoc_program.specs.Run.{AreOpened, AsksAfter, IsOpened, Runs}
 use Rattle.mdoc_program.specs.World.{World}
 use Rattle.mdoc_program.specs.declared.form_check.FormCheck.{FormCheck}
 use Rattle.mdoc_program.specs.declared.role.Role.{Role}
@@ -30,29 +31,32 @@ IsRefused status file Failed = ⊥
 
 -- The law that `Missing` comes exactly for the first file that isn't opened, where the cabinet has none of its name.
 abbrev pub MissingExactly : Type 0
-MissingExactly = (o : Order) (answers : List Answer) (role : Role) →
-    ((outcome o answers).status ≡ Missing role) ↔ AtFirst (IsAbsent role) (files_named o) answers
+MissingExactly = (o : Order) (told : Talks) (answers : List Answer) (role : Role) →
+    ((outcome o told answers).status ≡ Missing role) ↔ AtFirst (IsAbsent role) (files_named o) answers
 
 -- The law that `Form` comes exactly for the first file that isn't opened, where that is outside its form: its first fault.
 abbrev pub FormExactly : Type 0
-FormExactly = (o : Order) (answers : List Answer) (role : Role) (check : FormCheck) (at : ℕ) →
-    ((outcome o answers).status ≡ Form role check at) ↔ AtFirst (IsRefused (Form role check at)) (files_named o) answers
+FormExactly = (o : Order) (told : Talks) (answers : List Answer) (role : Role) (check : FormCheck) (at : ℕ) →
+    ((outcome o told answers).status ≡ Form role check at) ↔ AtFirst (IsRefused (Form role check at)) (files_named o) answers
 
--- The law that `Limit` comes exactly for the first file that isn't opened, where a limit is exceeded.
+-- The law that `Limit` comes exactly for the first file that isn't opened, where a limit is exceeded, and once all files
+-- are opened where the work passes one.
 abbrev pub LimitExactly : Type 0
-LimitExactly = (o : Order) (answers : List Answer) (limit : LimitName) (number : ℕ) →
-    ((outcome o answers).status ≡ Limit limit number) ↔ AtFirst (IsRefused (Limit limit number)) (files_named o) answers
+LimitExactly = (o : Order) (told : Talks) (answers : List Answer) (limit : LimitName) (number : ℕ) →
+    ((outcome o told answers).status ≡ Limit limit number)
+    ↔ (AtFirst (IsRefused (Limit limit number)) (files_named o) answers
+    ⊎ AsksAfter (files_named o) answers (λ contents. (work_of o.command o.words told contents).status ≡ Limit limit number) ⊥)
 
 -- The law that an outcome is `Cabinet` exactly where a read failed, once all files before it were opened.
 abbrev pub CabinetExactly : Type 0
-CabinetExactly = (o : Order) (answers : List Answer) →
-    ((outcome o answers).status ≡ Cabinet) ↔ AtFirst (λ file answer. answer ≡ Failed) (files_named o) answers
+CabinetExactly = (o : Order) (told : Talks) (answers : List Answer) →
+    ((outcome o told answers).status ≡ Cabinet) ↔ AtFirst (λ file answer. answer ≡ Failed) (files_named o) answers
 
 -- The law that `Done` comes only where all files were opened.
 abbrev pub DoneOnlyOpened : Type 0
-DoneOnlyOpened = (o : Order) (answers : List Answer) → (outcome o answers).status ≡ Done → AreOpened (files_named o) answers
+DoneOnlyOpened = (o : Order) (told : Talks) (answers : List Answer) → (outcome o told answers).status ≡ Done → AreOpened (files_named o) answers
 
 -- The law that with `Done` each line is printed.
 abbrev pub DonePrintsAll : Type 0
-DonePrintsAll = (o : Order) (before now : World) (runs : Runs o before now Done) →
-    now.sink.told ≡ option_map (λ calls. calls ++ map Put (outcome o runs.run.answers).lines) before.sink.told
+DonePrintsAll = (o : Order) (before now : World) (from to : Sources) (runs : Runs o before now from to Done) →
+    now.sink.told ≡ option_map (λ calls. calls ++ map Put (outcome o runs.told runs.run.answers).lines) before.sink.told

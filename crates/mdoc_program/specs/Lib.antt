@@ -1,5 +1,6 @@
 pub mod Agreeing
 pub mod AnsweredDocument
+pub mod Asking
 pub mod Cases
 pub mod CheckText
 pub mod Commands
@@ -10,6 +11,7 @@ pub mod Entry
 pub mod Exact
 pub mod Exactly
 pub mod FileFault
+pub mod Issue
 pub mod Number
 pub mod OpenDocument
 pub mod Order
@@ -23,7 +25,6 @@ pub mod Row
 pub mod Run
 pub mod Status
 pub mod Steps
-pub mod Texts
 pub mod WishLine
 pub mod Wishes
 pub mod WordCases

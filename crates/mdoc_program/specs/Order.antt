@@ -6,7 +6,7 @@ use Rattle.std.specs.Str.{bytes_eq}
 use Rattle.mdoc_outside.specs.OptionSteps.{◌>>=◌, where_true}
 use Rattle.mdoc_program.specs.Number.{is_number}
 use Rattle.mdoc_program.specs.declared.command.Command.{Command}
-use Rattle.mdoc_program.specs.declared.command.Command.TheVariants.{Draft}
+use Rattle.mdoc_program.specs.declared.command.Command.TheVariants.{Draft, Issue}
 use Rattle.mdoc_program.specs.declared.pair_kind.PairKind.{PairKind}
 use Rattle.mdoc_program.specs.declared.pair_kind.PairKind.TheVariants.{File, Number, Text}
 use Rattle.mdoc_program.specs.declared.role.Role.{Role}
@@ -23,14 +23,21 @@ pub record Pair : Type 0 where
 abbrev pub needed_file : List ℕ → Role → Pair
 needed_file name role = record { name = name; kind = File role; needed = true }
 
+abbrev pub needed_text : List ℕ → Pair
+needed_text name = record { name = name; kind = Text; needed = true }
+
 abbrev pub row : Command → List Pair
 row Draft =
     needed_file (codes "--store") roles.Store
     ∷ (needed_file (codes "--wishes") roles.Wishes
     ∷ (needed_file (codes "--rules") roles.Rules ∷ []))
+row Issue = needed_file (codes "--spec") roles.Spec ∷ (needed_text (codes "--out") ∷ [])
 
 abbrev pub command_of : List ℕ → Option Command
-command_of word = if bytes_eq word (codes "draft") then Some Draft else None
+command_of word =
+    if bytes_eq word (codes "draft") then Some Draft
+    else if bytes_eq word (codes "issue") then Some Issue
+    else None
 
 -- ---- the form
 

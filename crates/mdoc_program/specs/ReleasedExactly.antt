@@ -5,7 +5,8 @@ use Rattle.doc_store.specs.Held.{item_at}
 use Rattle.doc_store.specs.Store.{Store}
 use Rattle.consent.specs.declared.rule.Rule.{Rule}
 use Rattle.doc_request.specs.declared.doc_draft.DocDraft.{DocDraft}
-use Rattle.mdoc_program.specs.Core.{Answered, answered}
+use Rattle.doc_response.specs.Answered.{Answered}
+use Rattle.mdoc_program.specs.Core.{answered}
 use Rattle.mdoc_program.specs.Released.{wishes_in, shown_copy, released, released_places}
 
 abbrev pub items_in : Answered → List (List ℕ)

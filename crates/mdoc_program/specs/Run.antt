@@ -6,11 +6,14 @@ use Rattle.mdoc_outside.specs.declared.cabinet_call.CabinetCall.{CabinetCall}
 use Rattle.mdoc_outside.specs.declared.cabinet_call.CabinetCall.TheVariants.{Read, ReadFailed, Write, WriteFailed}
 use Rattle.mdoc_outside.specs.declared.sink_call.SinkCall.{SinkCall}
 use Rattle.mdoc_outside.specs.declared.sink_call.SinkCall.TheVariants.{Put, PutFailed}
-use Rattle.mdoc_program.specs.Commands.{work_of}
+use Rattle.mdoc_program.specs.Asking.{AskCauses, IsGained, Sources, Talks, no_talks}
+use Rattle.mdoc_program.specs.Commands.{asks_of, work_of}
 use Rattle.mdoc_program.specs.Content.{Content, content_of}
 use Rattle.mdoc_program.specs.Order.{Order}
 use Rattle.mdoc_program.specs.Outcome.{Answer, Found, Failed, FileName, Outcome, after_reads, files_named}
 use Rattle.mdoc_program.specs.World.{World, told_with}
+use Rattle.mdoc_program.specs.declared.command.Command.{Command}
+use Rattle.mdoc_program.specs.declared.command.Command.TheVariants.{Draft, Issue}
 use Rattle.mdoc_program.specs.declared.status.Status.{Status}
 use Rattle.mdoc_program.specs.declared.status.Status.TheVariants as statuses
 
@@ -109,6 +112,18 @@ pub record IsRun (files : List FileName) (work : List Content → Outcome) (befo
   -- each line of the outcome is one put, in order
   pub printed : now.sink.told ≡ option_map (λ calls. calls ++ put_calls stop (after_reads files answers work)) before.sink.told
 
+-- What is asked once the files are opened; nothing where one isn't.
+abbrev pub if_asked : Result Content Status → (Content → Type 0) → Type 0 → Type 0
+if_asked (Ok content) next nothing = next content
+if_asked (Err status) next nothing = nothing
+
+abbrev pub AsksAfter : List FileName → List Answer → (List Content → Type 0) → Type 0 → Type 0
+AsksAfter [] answers asks nothing = asks []
+AsksAfter (file ∷ files) [] asks nothing = nothing
+AsksAfter (file ∷ files) (Failed ∷ answers) asks nothing = nothing
+AsksAfter (file ∷ files) ((Found found) ∷ answers) asks nothing =
+    if_asked (content_of file.role found) (λ content. AsksAfter files answers (λ contents. asks (content ∷ contents)) nothing) nothing
+
 -- each file is there, is not too long, and is in its form
 abbrev pub IsOpened : FileName → Answer → Type 0
 IsOpened file Failed = ⊥
@@ -119,15 +134,34 @@ AreOpened [] answers = Unit {0}
 AreOpened (file ∷ files) [] = ⊥
 AreOpened (file ∷ files) (answer ∷ answers) = IsOpened file answer × AreOpened files answers
 
--- the work was done, or memory was wanting
-abbrev pub IsComplete : Status → Type 0
-IsComplete statuses.Done = Unit {0}
-IsComplete statuses.Memory = Unit {0}
-IsComplete status = ⊥
+-- no count of faults rose
+pub record IsFaultless (before now : World) (from to : Sources) : Type 0 where
+  pub cabinet : Rose before.cabinet.faults now.cabinet.faults → ⊥
+  pub sink : Rose before.sink.faults now.sink.faults → ⊥
+  pub wallet : Rose from.wallet_faults to.wallet_faults → ⊥
+  pub reader : Rose from.reader_faults to.reader_faults → ⊥
+  pub dice : Rose from.dice_faults to.dice_faults → ⊥
+
+-- the work was done, or memory was wanting; a package may be too long
+abbrev pub MayPass : Command → Type 0
+MayPass Draft = ⊥
+MayPass Issue = Unit {0}
+
+abbrev pub IsComplete : Command → Status → Type 0
+IsComplete command statuses.Done = Unit {0}
+IsComplete command statuses.Memory = Unit {0}
+IsComplete command (statuses.Limit limit number) = MayPass command
+IsComplete command status = ⊥
 
 -- What a run does with an order.
-pub record Runs (order : Order) (before now : World) (status : Status) : Type 0 where
-  pub run : IsRun (files_named order) (work_of order.command) before now status
-  -- Where all files are opened and no count rose, the work is done, or memory was wanting.
-  pub complete : AreOpened (files_named order) run.answers → (Rose before.cabinet.faults now.cabinet.faults → ⊥) →
-      (Rose before.sink.faults now.sink.faults → ⊥) → IsComplete status
+pub record Runs (order : Order) (before now : World) (from to : Sources) (status : Status) : Type 0 where
+  -- what the devices told and the dice dealt
+  pub told : Talks
+  pub gained : IsGained from.talks told to.talks
+  pub run : IsRun (files_named order) (work_of order.command order.words told) before now status
+  -- once all files are opened it is the answer to what the command asks; else nothing is asked
+  pub asked : AsksAfter (files_named order) run.answers (asks_of order.command order.words told status) (told ≡ no_talks)
+  -- at most one count of faults of the devices and the dice rose
+  pub asking : AskCauses status from to
+  -- Where all files are opened and no count rose, the work is done, or memory was wanting, or what it makes is too long.
+  pub complete : AreOpened (files_named order) run.answers → IsFaultless before now from to → IsComplete order.command status

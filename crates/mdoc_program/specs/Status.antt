@@ -15,6 +15,8 @@ status_code (statuses.Missing role) = 3
 status_code statuses.Cabinet = 4
 status_code (statuses.Form role check at) = 5
 status_code statuses.Sink = 6
+status_code statuses.Device = 8
+status_code statuses.Dice = 9
 status_code (statuses.Limit limit number) = 12
 status_code statuses.Memory = 13
 
@@ -42,5 +44,7 @@ status_text (statuses.Missing role) = codes "Missing " ++ role_text role
 status_text statuses.Cabinet = codes "Cabinet"
 status_text (statuses.Form role check at) = codes "Form " ++ role_text role ++ codes " " ++ check_text check ++ codes " " ++ decimal at
 status_text statuses.Sink = codes "Sink"
+status_text statuses.Device = codes "Device"
+status_text statuses.Dice = codes "Dice"
 status_text (statuses.Limit limit number) = codes "Limit " ++ limit_text limit ++ codes " " ++ decimal number
 status_text statuses.Memory = codes "Memory"

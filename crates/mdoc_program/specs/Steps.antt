@@ -7,6 +7,7 @@ use Rattle.mdoc_outside.specs.State.{State, CallFails}
 use Rattle.mdoc_outside.specs.declared.cabinet_call.CabinetCall.TheVariants.{Read, ReadFailed, WriteFailed}
 use Rattle.mdoc_outside.specs.declared.sink_call.SinkCall.{SinkCall}
 use Rattle.mdoc_outside.specs.declared.sink_call.SinkCall.TheVariants.{PutFailed}
+use Rattle.mdoc_program.specs.Asking.{AskCauses, IsGained, Sources, Talks}
 use Rattle.mdoc_program.specs.Content.{Content, form, content_of}
 use Rattle.mdoc_program.specs.Outcome.{FileName, Outcome}
 use Rattle.mdoc_program.specs.World.{World, after_put, after_read, after_write}
@@ -92,9 +93,22 @@ pub record ReadsOn (file : FileName) (rest : Content → World → Type 0) (old 
   pub opens : content_of file.role found ≡ Ok content
   pub goes_on : rest content (after_read file.name found old)
 
--- The files are opened one by one, and then the work is done.
-abbrev pub Does : List FileName → (List Content → Outcome) → World → World → Status → Type 0
-Does [] work old new status = WritesFiles (work []).files (work []).lines (work []).status old new status
-Does (file ∷ files) work old new status =
-    (ReadEnds file old.cabinet new.cabinet status × (new.sink ≡ old.sink))
-    ⊎ ReadsOn file (λ content between. Does files (λ contents. work (content ∷ contents)) between new status) old
+-- The files are opened one by one, and then comes the rest; where one isn't opened, nothing else was done.
+abbrev pub Opens : List FileName → (List Content → World → World → Status → Type 0) → Type 0 → World → World → Status → Type 0
+Opens [] rest nothing old new status = rest [] old new status
+Opens (file ∷ files) rest nothing old new status =
+    (ReadEnds file old.cabinet new.cabinet status × (new.sink ≡ old.sink) × nothing)
+    ⊎ ReadsOn file (λ content between. Opens files (λ contents. rest (content ∷ contents)) nothing between new status) old
+
+-- The files of an outcome are written, and its lines printed.
+abbrev pub Ends : Outcome → World → World → Status → Type 0
+Ends outcome old new status = WritesFiles outcome.files outcome.lines outcome.status old new status
+
+-- The work of a command: what it asked and drew, by which the rest is the outcome.
+abbrev pub Works : (Talks → List Content → Outcome) → (Talks → Status → List Content → Type 0) → Sources → Sources → List Content → World → World → Status → Type 0
+Works work asks from to contents old new status =
+    (told : Talks) × IsGained from.talks told to.talks × asks told status contents × AskCauses status from to × Ends (work told contents) old new status
+
+-- What a command does with its files: it opens them, and then works.
+abbrev pub Does : List FileName → (Talks → List Content → Outcome) → (Talks → Status → List Content → Type 0) → Sources → Sources → World → World → Status → Type 0
+Does files work asks from to old new status = Opens files (Works work asks from to) (to ≡ from) old new status

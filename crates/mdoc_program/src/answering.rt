@@ -1,18 +1,18 @@
 // What the holder's rules release of a store for the documents that are asked for.
-ghost use Rattle.std.specs.Prelude.{◌≡◌, None, IfOk, map, option_map, option_copied};
+ghost use Rattle.std.specs.Prelude.{◌≡◌, None, IfOk, OnOk, map, option_map, option_copied};
 ghost use Rattle.std.specs.List.{AllByRecursion};
 ghost use Rattle.doc_store.specs.StoreView.{documents_in};
 ghost use Rattle.doc_store.specs.StoredCopy.{copy_of};
 ghost use Rattle.consent.specs.Wish.{wanted};
 ghost use Rattle.doc_request.specs.Draft.{IsDocument, IsWish};
-ghost use Rattle.mdoc_program.specs.AnsweredDocument.{answered_seen};
+ghost use Rattle.mdoc_program.specs.AnsweredDocument.{with_answer};
 ghost use Rattle.mdoc_program.specs.Core.{answered, answered_with};
 ghost use Rattle.mdoc_program.specs.Released.{answer, shown_copy, wanted_of};
 
-use crate::answered::AnsweredDocument;
 use crate::names::text_of;
 use consent::{Rules, Wish};
 use doc_request::{DocDraft, WishDraft};
+use doc_response::AnsweredDocument;
 use doc_store::{Store, StoredCopy};
 use mdoc_outside::Memory;
 use std::alloc::Global;
@@ -54,6 +54,20 @@ fn wish_of<'a>(doc_type: &'a str, wish: &'a WishDraft) -> Wish<'a>
     }
 }
 
+// Adds a wish: the item that answers it, or that it is missing.
+fn add<'a>(
+    document: &mut AnsweredDocument<'a>,
+    wish: &Wish<'a>,
+    given: Option<&'a [u8]>,
+) -> Result<(), Memory>
+    ensures { OnOk result (document.new ≡ with_answer document.old (wanted wish.now) (option_copied given.entry)) }
+{
+    match given {
+        Some(raw) => document.item(wish.ns, raw),
+        None => document.missing(wish.ns, wish.name),
+    }
+}
+
 // What a document that is asked for is answered with, of the copy that is shown.
 fn answer_document<'a>(
     alloc: Global,
@@ -62,18 +76,14 @@ fn answer_document<'a>(
     asked: &'a DocDraft,
 ) -> Result<AnsweredDocument<'a>, Memory>
     requires { IsDocument asked.now }
-    ensures { IfOk result (λ document. answered_seen document ≡ answered_with rules.now None (option_map copy_of copy.entry) asked.now) }
+    ensures { IfOk result (λ document. document ≡ answered_with rules.now None (option_map copy_of copy.entry) asked.now) }
 {
     let doc_type = text_of(&asked.doc_type);
-    let mut document = AnsweredDocument {
-        doc_type,
-        items: Vec::new(alloc),
-        missing: Vec::new(alloc),
-    };
+    let mut document = AnsweredDocument::new(alloc, doc_type);
     let wishes = asked.wishes.as_slice();
     for draft in wishes {
         let wish = wish_of(doc_type, draft);
-        document.add(&wish, answer(rules, copy, &wish))?;
+        add(&mut document, &wish, answer(rules, copy, &wish))?;
     }
     Ok(document)
 }
@@ -87,7 +97,7 @@ fn answer_of<'a>(
     asked: &'a DocDraft,
 ) -> Result<AnsweredDocument<'a>, Memory>
     requires { IsDocument asked.now }
-    ensures { IfOk result (λ document. answered_seen document ≡ answered rules.now None (documents_in store.now) asked.now) }
+    ensures { IfOk result (λ document. document ≡ answered rules.now None (documents_in store.now) asked.now) }
 {
     let copy = shown_copy(store, text_of(&asked.doc_type));
     answer_document(alloc, rules, copy, asked)
@@ -101,7 +111,7 @@ pub(crate) fn answer_all<'a>(
     rules: &Rules,
 ) -> Result<Vec<AnsweredDocument<'a>>, Memory>
     requires { AllByRecursion IsDocument asked.now }
-    ensures { IfOk result (λ all. map answered_seen all.items ≡ map (answered rules.now None (documents_in store.now)) asked.now) }
+    ensures { IfOk result (λ all. all.items ≡ map (answered rules.now None (documents_in store.now)) asked.now) }
 {
     let mut all = Vec::new(alloc);
     for document in asked {

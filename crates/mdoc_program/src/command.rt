@@ -7,6 +7,8 @@ ghost use Rattle.mdoc_program.specs.Order.{command_of};
 pub enum Command {
     /// Prints the core of what the holder's rules release.
     Draft,
+    /// Issues the copies that a spec asks for.
+    Issue,
 }
 
 impl Command {
@@ -16,6 +18,7 @@ impl Command {
     {
         match word {
             "draft" => Some(Command::Draft),
+            "issue" => Some(Command::Issue),
             _ => None,
         }
     }

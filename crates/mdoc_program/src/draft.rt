@@ -5,7 +5,7 @@ ghost use Rattle.doc_request.specs.Draft.{IsRequest};
 ghost use Rattle.mdoc_program.specs.Draft.{draft_files, draft_line, draft_outcome};
 ghost use Rattle.mdoc_program.specs.Order.{is_in_form, row};
 ghost use Rattle.mdoc_program.specs.Outcome.{files_named};
-ghost use Rattle.mdoc_program.specs.Steps.{Does};
+ghost use Rattle.mdoc_program.specs.Steps.{Ends, Opens};
 ghost use Rattle.mdoc_program.specs.World.{world};
 ghost use Rattle.mdoc_program.specs.declared.command.Command.TheVariants.{Draft};
 
@@ -79,7 +79,7 @@ fn draft_files<C: Cabinet, O: Sink>(
     cabinet: &mut C,
     out: &mut O,
 ) -> Status
-    ensures { Does (draft_files files.entry.store.now files.entry.wishes.now files.entry.rules.now) draft_outcome
+    ensures { Opens (draft_files files.entry.store.now files.entry.wishes.now files.entry.rules.now) (λ contents. Ends (draft_outcome contents)) (Unit {0})
         (world (C.state cabinet.old) (O.state out.old)) (world (C.state cabinet.new) (O.state out.new)) result }
 {
     let store: StoreFile = match read_file(alloc, files.store, cabinet) {
@@ -108,7 +108,7 @@ pub(crate) fn draft<C: Cabinet, O: Sink>(
     out: &mut O,
 ) -> Status
     requires { is_in_form (row Draft) words.now ≡ true }
-    ensures { Does (files_named (record { command = Draft; words = words.now })) draft_outcome
+    ensures { Opens (files_named (record { command = Draft; words = words.now })) (λ contents. Ends (draft_outcome contents)) (Unit {0})
         (world (C.state cabinet.old) (O.state out.old)) (world (C.state cabinet.new) (O.state out.new)) result }
 {
     draft_files(alloc, files_of(words), cabinet, out)

@@ -1,9 +1,11 @@
 // Why a file is outside its form.
 ghost use Rattle.std.specs.Prelude.{◌≡◌, Some};
-ghost use Rattle.mdoc_program.specs.CheckText.{check_text, item_fault_text, kind_text};
+ghost use Rattle.mdoc_program.specs.CheckText.{check_text, item_fault_text, kind_text, row_fault_text};
 
 use cbor_view::CborKind;
 use doc_store::{ItemFault, StoreCheck};
+use issuing::SpecCheck;
+use mdl_table::RowFault;
 use std::fmt;
 
 /// Why a file is outside its form.
@@ -13,6 +15,8 @@ pub enum FormCheck {
     Line,
     /// The first fault of a store file: this check fails at the place.
     Store(StoreCheck),
+    /// The first fault of a spec file: this check fails at the line, or of the whole file at 0.
+    Spec(SpecCheck),
 }
 
 // The name of a fault of CBOR.
@@ -43,6 +47,17 @@ fn item_fault_name(fault: ItemFault) -> &'static str
     }
 }
 
+// The name of what is wrong with the value of an element.
+fn row_fault_name(fault: RowFault) -> &'static str
+    ensures { result.now ≡ row_fault_text fault }
+{
+    match fault {
+        RowFault::KindWrong => "KindWrong",
+        RowFault::DateWrong => "DateWrong",
+        RowFault::RangeWrong => "RangeWrong",
+    }
+}
+
 impl fmt::Display for FormCheck {
     ghost output = { λ check. Some (check_text check) };
 
@@ -57,6 +72,13 @@ impl fmt::Display for FormCheck {
                 write!(f, "Item {}", item_fault_name(*fault))
             }
             FormCheck::Store(StoreCheck::Limit(limit, number)) => {
+                write!(f, "Limit {} {number}", limit.text())
+            }
+            FormCheck::Spec(SpecCheck::Line) => write!(f, "Line"),
+            FormCheck::Spec(SpecCheck::Row(fault)) => write!(f, "Row {}", row_fault_name(*fault)),
+            FormCheck::Spec(SpecCheck::Missing(number)) => write!(f, "Missing {number}"),
+            FormCheck::Spec(SpecCheck::Order) => write!(f, "Order"),
+            FormCheck::Spec(SpecCheck::Limit(limit, number)) => {
                 write!(f, "Limit {} {number}", limit.text())
             }
         }

@@ -83,7 +83,7 @@ pub fn missing_exactly()
 
 /// The laws that a file is told to be outside its form, or to exceed a limit, exactly where it is the first that isn't
 /// opened and this is its first fault.
-#[tactic(auto, using(crate::proofs::ExactlyLemmas::form_exactly, crate::proofs::ExactlyLemmas::limit_exactly))]
+#[tactic(auto, using(crate::proofs::ExactlyLemmas::form_exactly))]
 pub fn refused_exactly()
     ensures form { FormExactly }
     ensures limit { LimitExactly }

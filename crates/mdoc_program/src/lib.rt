@@ -2,16 +2,16 @@
 //! call `run`: what `draft` prints is what the holder's rules release, and every other answer has its cause.
 #![tactic(auto)]
 
-mod answered;
 mod answering;
 mod command;
 mod draft;
 mod file_fault;
 mod form;
 mod form_check;
+mod issue;
+mod issue_lines;
 mod laws;
 mod names;
-mod namespaces;
 mod open_document;
 mod order;
 mod pair;
@@ -22,6 +22,7 @@ mod reading;
 mod response_writer;
 mod role;
 mod rules_form;
+mod spec_form;
 mod status;
 mod store_form;
 mod wish_line;

@@ -82,7 +82,6 @@ fn is_in_form(pairs: &[Pair], words: &[Word]) -> bool
 }
 
 // Whether words are in the form of a command's row.
-#[tactic(auto, using(crate::proofs::OrderLemmas::draft_row))]
 fn is_in_row(command: Command, words: &[Word]) -> bool
     ensures { result ≡ is_in_form (row command) words.now }
 {
@@ -92,6 +91,13 @@ fn is_in_row(command: Command, words: &[Word]) -> bool
                 Pair::needed_file("--store", Role::Store),
                 Pair::needed_file("--wishes", Role::Wishes),
                 Pair::needed_file("--rules", Role::Rules),
+            ];
+            is_in_form(&pairs, words)
+        }
+        Command::Issue => {
+            let pairs = [
+                Pair::needed_file("--spec", Role::Spec),
+                Pair::needed_text("--out"),
             ];
             is_in_form(&pairs, words)
         }

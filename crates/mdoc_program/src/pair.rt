@@ -15,7 +15,7 @@ pub(crate) struct Pair {
 }
 
 impl Pair {
-    ghost use Rattle.mdoc_program.specs.Order.{needed_file};
+    ghost use Rattle.mdoc_program.specs.Order.{needed_file, needed_text};
     ghost use Rattle.mdoc_program.specs.Row.{pair_seen};
 
     // A file that has to be named.
@@ -25,6 +25,17 @@ impl Pair {
         Pair {
             name,
             kind: PairKind::File(role),
+            needed: true,
+        }
+    }
+
+    // A text that has to be there.
+    pub(crate) fn needed_text(name: &'static str) -> Pair
+        ensures { pair_seen result ≡ needed_text name.now }
+    {
+        Pair {
+            name,
+            kind: PairKind::Text,
             needed: true,
         }
     }

@@ -24,6 +24,10 @@ pub enum Status {
     Form(Role, FormCheck, u64),
     /// The sink of what is printed failed.
     Sink,
+    /// A key device failed.
+    Device,
+    /// The dice failed.
+    Dice,
     /// A limit that is passed, with the number that passes it.
     Limit(LimitName, u64),
     /// Want of memory.
@@ -42,6 +46,8 @@ impl Status {
             Status::Cabinet => 4,
             Status::Form(..) => 5,
             Status::Sink => 6,
+            Status::Device => 8,
+            Status::Dice => 9,
             Status::Limit(..) => 12,
             Status::Memory => 13,
         }
@@ -59,6 +65,8 @@ impl fmt::Display for Status {
             Status::Cabinet => write!(f, "Cabinet"),
             Status::Form(role, check, at) => write!(f, "Form {role} {check} {at}"),
             Status::Sink => write!(f, "Sink"),
+            Status::Device => write!(f, "Device"),
+            Status::Dice => write!(f, "Dice"),
             Status::Limit(name, number) => write!(f, "Limit {} {number}", name.text()),
             Status::Memory => write!(f, "Memory"),
         }

@@ -1,5 +1,6 @@
 // The command `draft`.
-use crate::outcome::{Named, outcome_of};
+use crate::outcome::{Fails, Named, calls, comes_to};
+use std::alloc::Global;
 use std::test::Fail;
 
 // {"version": 1, "documents": []}
@@ -16,100 +17,107 @@ const FILES: &[Named<'static>] = &[("s", EMPTY), ("w", WISHES), ("r", RULES)];
 // The core {"documentErrors": [{"d": 0}]}.
 const PRINTED: &str = "core a16e646f63756d656e744572726f727381a1616400\n";
 
+const NO_FAILS: Fails<'static> = (&[], &[]);
+
+// Files of rules that say nothing, and of wishes for two documents.
+const NO_RULES: &[Named<'static>] = &[("s", EMPTY), ("w", WISHES), ("r", b"")];
+
+const TWO_DOCUMENTS: &[Named<'static>] = &[
+    ("s", EMPTY),
+    (
+        "w",
+        b"document d\nwant n a 0\ndocument e\nwant n a 1\nwant m a 0\n",
+    ),
+    ("r", RULES),
+];
+
+const TWO_ERRORS: &str = "core a16e646f63756d656e744572726f727382a1616400a1616500\n";
+
+// Whether the command prints that of these files.
+fn prints(alloc: Global, files: &[Named<'_>], printed: &str) -> Result<bool, Fail> {
+    comes_to(alloc, WORDS, files, NO_FAILS, "Done", printed.as_bytes())
+}
+
+// Whether the command prints nothing of these files, and ends with that status line.
+fn refuses(alloc: Global, files: &[Named<'_>], status: &str) -> Result<bool, Fail> {
+    comes_to(alloc, WORDS, files, NO_FAILS, status, b"")
+}
+
 #[test]
 fn the_empty_store(rt: HostRuntime) -> Result<(), Fail> {
-    let alloc = rt.alloc();
-    let no_rules: &[Named<'_>] = &[("s", EMPTY), ("w", WISHES), ("r", b"")];
-    let two: &[Named<'_>] = &[
-        ("s", EMPTY),
-        (
-            "w",
-            b"document d\nwant n a 0\ndocument e\nwant n a 1\nwant m a 0\n",
-        ),
-        ("r", RULES),
-    ];
-    let two_errors = "core a16e646f63756d656e744572726f727382a1616400a1616500\n";
-    for (files, printed) in [(FILES, PRINTED), (no_rules, PRINTED), (two, two_errors)] {
-        let outcome = outcome_of(alloc, WORDS, files, &[], &[])?;
-        assert_eq!(rt; outcome.status.as_str(), "Done");
-        assert_eq!(rt; outcome.printed.as_slice(), printed.as_bytes());
-    }
+    assert!(rt; prints(rt.alloc(), FILES, PRINTED)?);
+    assert!(rt; prints(rt.alloc(), NO_RULES, PRINTED)?);
+    assert!(rt; prints(rt.alloc(), TWO_DOCUMENTS, TWO_ERRORS)?);
     Ok(())
+}
+
+// Words that are an order, but for files that are missing or outside their form; and words that are none.
+const ORDERS: [(&str, &str); 20] = [
+    ("draft --rules r --store s --wishes w", "Done"),
+    ("", "Usage"),
+    ("draft", "Usage"),
+    ("daft --store s --wishes w --rules r", "Usage"),
+    ("draft --store s --wishes w", "Usage"),
+    ("draft --store s --wishes w --rules", "Usage"),
+    ("draft --store s --wishes w --rules r more", "Usage"),
+    ("draft --store s --wishes w --rules r --moment 0", "Usage"),
+    ("draft --store s --wishes w --rules r --rules r", "Usage"),
+    ("draft --store s --store s --wishes w", "Usage"),
+    ("draft --store s --wishes w --roots r", "Usage"),
+    ("draft --store -s --wishes w --rules r", "Usage"),
+    ("draft --store --wishes --wishes w --rules r", "Usage"),
+    ("draft store s wishes w rules r", "Usage"),
+    ("draft --store s --wishes w --rules absent", "Missing Rules"),
+    (
+        "draft --store s --wishes absent --rules absent",
+        "Missing Wishes",
+    ),
+    (
+        "draft --store absent --wishes absent --rules r",
+        "Missing Store",
+    ),
+    (
+        "draft --store w --wishes absent --rules r",
+        "Form Store Field version 0",
+    ),
+    (
+        "draft --store s --wishes r --rules absent",
+        "Form Wishes Line 1",
+    ),
+    ("draft --store s --wishes w --rules w", "Form Rules Line 1"),
+];
+
+// Whether words over the files end with that status, and print something exactly where it is `Done`.
+fn ends(alloc: Global, words: &str, status: &str) -> Result<bool, Fail> {
+    let printed = if status == "Done" { PRINTED } else { "" };
+    comes_to(alloc, words, FILES, NO_FAILS, status, printed.as_bytes())
 }
 
 #[test]
 fn words(rt: HostRuntime) -> Result<(), Fail> {
-    let alloc = rt.alloc();
-    for (words, status) in [
-        ("draft --rules r --store s --wishes w", "Done"),
-        ("", "Usage"),
-        ("draft", "Usage"),
-        ("daft --store s --wishes w --rules r", "Usage"),
-        ("draft --store s --wishes w", "Usage"),
-        ("draft --store s --wishes w --rules", "Usage"),
-        ("draft --store s --wishes w --rules r more", "Usage"),
-        ("draft --store s --wishes w --rules r --moment 0", "Usage"),
-        ("draft --store s --wishes w --rules r --rules r", "Usage"),
-        ("draft --store s --store s --wishes w", "Usage"),
-        ("draft --store s --wishes w --roots r", "Usage"),
-        ("draft --store -s --wishes w --rules r", "Usage"),
-        ("draft --store --wishes --wishes w --rules r", "Usage"),
-        ("draft store s wishes w rules r", "Usage"),
-        ("draft --store s --wishes w --rules absent", "Missing Rules"),
-        (
-            "draft --store s --wishes absent --rules absent",
-            "Missing Wishes",
-        ),
-        (
-            "draft --store absent --wishes absent --rules r",
-            "Missing Store",
-        ),
-        (
-            "draft --store w --wishes absent --rules r",
-            "Form Store Field version 0",
-        ),
-        (
-            "draft --store s --wishes r --rules absent",
-            "Form Wishes Line 1",
-        ),
-        ("draft --store s --wishes w --rules w", "Form Rules Line 1"),
-    ] {
-        let outcome = outcome_of(alloc, words, FILES, &[], &[])?;
-        assert_eq!(rt; outcome.status.as_str(), status, "{words}");
-        assert_eq!(rt;
-            outcome.printed.as_slice().is_empty(),
-            status != "Done",
-            "{words}"
-        );
+    for (words, status) in &ORDERS {
+        assert!(rt; ends(rt.alloc(), words, status)?, "{words}");
     }
     Ok(())
 }
 
+// The calls that fail, and how the run ends.
+const FAILING: [(Fails<'static>, &str, &str); 7] = [
+    ((&[0], &[]), "Cabinet", ""),
+    ((&[1], &[]), "Cabinet", ""),
+    ((&[2], &[]), "Cabinet", ""),
+    ((&[3], &[]), "Done", PRINTED),
+    ((&[], &[0]), "Sink", ""),
+    ((&[], &[1]), "Done", PRINTED),
+    ((&[], &[2]), "Done", PRINTED),
+];
+
 #[test]
 fn failing_calls(rt: HostRuntime) -> Result<(), Fail> {
-    let alloc = rt.alloc();
-    for call in 0u64..4 {
-        let outcome = outcome_of(alloc, WORDS, FILES, &[call], &[])?;
-        let status = if call < 3 { "Cabinet" } else { "Done" };
-        assert_eq!(rt;
-            outcome.status.as_str(),
-            status,
-            "the cabinet's call {call}"
-        );
-        assert_eq!(rt;
-            outcome.printed.as_slice().is_empty(),
-            call < 3,
-            "the cabinet's call {call}"
-        );
-    }
-    for call in 0u64..3 {
-        let outcome = outcome_of(alloc, WORDS, FILES, &[], &[call])?;
-        let status = if call < 1 { "Sink" } else { "Done" };
-        assert_eq!(rt; outcome.status.as_str(), status, "the sink's call {call}");
-        assert_eq!(rt;
-            outcome.printed.as_slice().is_empty(),
-            call < 1,
-            "the sink's call {call}"
+    for (fails, status, printed) in &FAILING {
+        assert!(rt;
+            comes_to(rt.alloc(), WORDS, FILES, *fails, status, printed.as_bytes())?,
+            "{fails:?}"
         );
     }
     Ok(())
@@ -118,143 +126,146 @@ fn failing_calls(rt: HostRuntime) -> Result<(), Fail> {
 // Rules that are just short enough, and a store that is too long, before wishes that aren't there.
 #[test]
 fn files_that_are_too_long(rt: HostRuntime) -> Result<(), Fail> {
-    let alloc = rt.alloc();
-    let mut longest = b"# a comment, and then spaces\n".to_vec(alloc)?;
+    let mut longest = b"# a comment, and then spaces\n".to_vec(rt.alloc())?;
     longest.resize(16_777_216, b' ')?;
     let files: &[Named<'_>] = &[("s", EMPTY), ("w", WISHES), ("r", longest.as_slice())];
-    let outcome = outcome_of(alloc, WORDS, files, &[], &[])?;
-    assert_eq!(rt; outcome.status.as_str(), "Done");
+    assert!(rt; prints(rt.alloc(), files, PRINTED)?);
     longest.push(b' ')?;
     let files: &[Named<'_>] = &[("s", longest.as_slice()), ("r", RULES)];
-    let outcome = outcome_of(alloc, WORDS, files, &[], &[])?;
-    assert_eq!(rt; outcome.status.as_str(), "Limit FileBytes 16777217");
-    assert!(rt; outcome.printed.as_slice().is_empty());
+    assert!(rt; refuses(rt.alloc(), files, "Limit FileBytes 16777217")?);
     Ok(())
 }
 
-// The first fault of a line file, as the program tells it.
+// Wishes, rules, and the status line, which tells the first fault.
+const FAULTS: [(&str, &str, &str); 4] = [
+    ("", "", "Form Wishes Line 1"),
+    ("document d\n", "", "Form Wishes Line 1"),
+    (
+        "document d\n\n# more\nwant n a 2\n",
+        "allow\n",
+        "Form Wishes Line 4",
+    ),
+    (
+        "document d\nwant n a 0\n",
+        "# all\n\nallow * * * * *\nallow\n",
+        "Form Rules Line 4",
+    ),
+];
+
+// Whether line files over the empty store end with that status.
+fn tells<'x>(alloc: Global, wishes: &'x str, rules: &'x str, status: &str) -> Result<bool, Fail> {
+    let files: &[Named<'_>] = &[
+        ("s", EMPTY),
+        ("w", wishes.as_bytes()),
+        ("r", rules.as_bytes()),
+    ];
+    refuses(alloc, files, status)
+}
+
 #[test]
 fn faults_of_line_files(rt: HostRuntime) -> Result<(), Fail> {
-    let alloc = rt.alloc();
-    let mut many = String::new(alloc);
-    for number in 0u64..17 {
-        many.push_str(format!(in alloc; "document d{number}\nwant n a 0\n")?.as_str())?;
-    }
-    let spoilt = format!(in alloc; "{many}want n\n")?;
-    let bad_before = format!(in alloc; "want n a 0\n{many}")?;
-    for (wishes, rules, status) in [
-        ("", "", "Form Wishes Line 1"),
-        ("document d\n", "", "Form Wishes Line 1"),
-        (
-            "document d\n\n# more\nwant n a 2\n",
-            "allow\n",
-            "Form Wishes Line 4",
-        ),
-        (
-            "document d\nwant n a 0\n",
-            "# all\n\nallow * * * * *\nallow\n",
-            "Form Rules Line 4",
-        ),
-        (many.as_str(), "allow\n", "Limit Documents 17"),
-        (spoilt.as_str(), "", "Limit Documents 17"),
-        (bad_before.as_str(), "", "Form Wishes Line 1"),
-    ] {
-        let files: &[Named<'_>] = &[
-            ("s", EMPTY),
-            ("w", wishes.as_bytes()),
-            ("r", rules.as_bytes()),
-        ];
-        let outcome = outcome_of(alloc, WORDS, files, &[], &[])?;
-        assert_eq!(rt; outcome.status.as_str(), status, "{wishes} {rules}");
-        assert!(rt; outcome.printed.as_slice().is_empty(), "{wishes} {rules}");
+    for (wishes, rules, status) in &FAULTS {
+        assert!(rt;
+            tells(rt.alloc(), wishes, rules, status)?,
+            "{wishes} {rules}"
+        );
     }
     Ok(())
 }
+
+// Wishes for 17 documents, between two texts.
+fn many(alloc: Global, front: &str, behind: &str) -> Result<String, Fail> {
+    let mut text = String::from_str(alloc, front)?;
+    for number in 0u64..17 {
+        text.push_str(format!(in alloc; "document d{number}\nwant n a 0\n")?.as_str())?;
+    }
+    text.push_str(behind)?;
+    Ok(text)
+}
+
+// A limit that is passed before a line outside the grammar is told, and after one not.
+#[test]
+fn too_many_documents(rt: HostRuntime) -> Result<(), Fail> {
+    for (front, behind, rules, status) in [
+        ("", "", "allow\n", "Limit Documents 17"),
+        ("", "want n\n", "", "Limit Documents 17"),
+        ("want n a 0\n", "", "", "Form Wishes Line 1"),
+    ] {
+        let wishes = many(rt.alloc(), front, behind)?;
+        assert!(rt;
+            tells(rt.alloc(), wishes.as_str(), rules, status)?,
+            "{front} {behind}"
+        );
+    }
+    Ok(())
+}
+
+// What is printed of the files, as one put.
+const PUT: &str = "core a16e646f63756d656e744572726f727381a1616400\n|";
+
+// Words, the calls that fail, the status line, the cabinet's calls and the sink's.
+const CALLS: [(&str, Fails<'static>, &str, (&str, &str)); 10] = [
+    (WORDS, NO_FAILS, "Done", ("rs rw rr", PUT)),
+    (
+        "draft --rules r --wishes w --store s",
+        NO_FAILS,
+        "Done",
+        ("rs rw rr", PUT),
+    ),
+    // an earlier file is missing, before the cabinet would fail at a later one
+    (
+        "draft --store s --wishes x --rules r",
+        (&[2], &[]),
+        "Missing Wishes",
+        ("rs rx", ""),
+    ),
+    (
+        "draft --store x --wishes w --rules r",
+        (&[1], &[]),
+        "Missing Store",
+        ("rx", ""),
+    ),
+    // and the cabinet fails at an earlier one, before a later one is missing
+    (
+        "draft --store s --wishes w --rules x",
+        (&[1], &[]),
+        "Cabinet",
+        ("rs Rw", ""),
+    ),
+    (
+        "draft --store s --wishes x --rules r",
+        (&[1], &[]),
+        "Cabinet",
+        ("rs Rx", ""),
+    ),
+    // an earlier file is outside its form
+    (
+        "draft --store s --wishes r --rules r",
+        (&[2], &[]),
+        "Form Wishes Line 1",
+        ("rs rr", ""),
+    ),
+    // one file in two roles is read twice, once for each
+    (
+        "draft --store s --wishes w --rules w",
+        NO_FAILS,
+        "Form Rules Line 1",
+        ("rs rw rw", ""),
+    ),
+    (WORDS, (&[], &[0]), "Sink", ("rs rw rr", "!")),
+    ("draft --store s --wishes w", NO_FAILS, "Usage", ("", "")),
+];
 
 // The files are read in the order of the table up to the first that ends the run, each once and no other, and each line
 // is one put.
 #[test]
 fn calls_of_a_run(rt: HostRuntime) -> Result<(), Fail> {
-    let alloc = rt.alloc();
-    let whole = format!(in alloc; "{PRINTED}|")?;
-    for (words, cabinet_fails, sink_fails, status, calls, puts) in [
-        (WORDS, None, None, "Done", "rs rw rr", whole.as_str()),
-        (
-            "draft --rules r --wishes w --store s",
-            None,
-            None,
-            "Done",
-            "rs rw rr",
-            whole.as_str(),
-        ),
-        // an earlier file is missing, before the cabinet would fail at a later one
-        (
-            "draft --store s --wishes x --rules r",
-            Some(2u64),
-            None,
-            "Missing Wishes",
-            "rs rx",
-            "",
-        ),
-        (
-            "draft --store x --wishes w --rules r",
-            Some(1),
-            None,
-            "Missing Store",
-            "rx",
-            "",
-        ),
-        // and the cabinet fails at an earlier one, before a later one is missing
-        (
-            "draft --store s --wishes w --rules x",
-            Some(1),
-            None,
-            "Cabinet",
-            "rs Rw",
-            "",
-        ),
-        (
-            "draft --store s --wishes x --rules r",
-            Some(1),
-            None,
-            "Cabinet",
-            "rs Rx",
-            "",
-        ),
-        // an earlier file is outside its form
-        (
-            "draft --store s --wishes r --rules r",
-            Some(2),
-            None,
-            "Form Wishes Line 1",
-            "rs rr",
-            "",
-        ),
-        // one file in two roles is read twice, once for each
-        (
-            "draft --store s --wishes w --rules w",
-            None,
-            None,
-            "Form Rules Line 1",
-            "rs rw rw",
-            "",
-        ),
-        (WORDS, None, Some(0u64), "Sink", "rs rw rr", "!"),
-        ("draft --store s --wishes w", None, None, "Usage", "", ""),
-    ] {
-        let fails = match cabinet_fails {
-            Some(call) => vec![in alloc; call]?,
-            None => Vec::new(alloc),
-        };
-        let put_fails = match sink_fails {
-            Some(call) => vec![in alloc; call]?,
-            None => Vec::new(alloc),
-        };
-        let files: &[Named<'_>] = &[("s", EMPTY), ("w", WISHES), ("r", RULES), ("other", RULES)];
-        let outcome = outcome_of(alloc, words, files, &fails, &put_fails)?;
-        assert_eq!(rt; outcome.status.as_str(), status, "{words}");
-        assert_eq!(rt; outcome.calls.as_slice(), calls.as_bytes(), "{words}");
-        assert_eq!(rt; outcome.puts.as_slice(), puts.as_bytes(), "{words}");
+    let files: &[Named<'_>] = &[("s", EMPTY), ("w", WISHES), ("r", RULES), ("other", RULES)];
+    for (words, fails, status, shown) in &CALLS {
+        assert!(rt;
+            calls(rt.alloc(), words, files, *fails, status, *shown)?,
+            "{words}"
+        );
     }
     Ok(())
 }

@@ -4,6 +4,8 @@
 #[cfg(test)]
 mod draft;
 #[cfg(test)]
+mod issue;
+#[cfg(test)]
 mod line_files;
 #[cfg(test)]
 mod outcome;

@@ -1,5 +1,5 @@
 // What `draft` prints of stores that hold something.
-use crate::outcome::{Named, Outcome, outcome_of};
+use crate::outcome::{Named, comes_to};
 use std::alloc::Global;
 use std::test::Fail;
 
@@ -212,69 +212,88 @@ fn joined(alloc: Global, parts: &[&[u8]]) -> Result<Vec<u8>, Fail> {
     Ok(all)
 }
 
-fn drafted(alloc: Global, store: &[u8], wishes: &str, rules: &str) -> Result<Outcome, Fail> {
+// Whether the command prints those bytes of these files and ends with that status line.
+fn drafts(
+    alloc: Global,
+    store: &[u8],
+    (wishes, rules): (&str, &str),
+    status: &str,
+    printed: &[u8],
+) -> Result<bool, Fail> {
     let files: &[Named<'_>] = &[
         ("s", store),
         ("w", wishes.as_bytes()),
         ("r", rules.as_bytes()),
     ];
-    outcome_of(alloc, WORDS, files, &[], &[])
+    comes_to(alloc, WORDS, files, (&[], &[]), status, printed)
+}
+
+// A store with one document of these copies.
+fn store_of(alloc: Global, copies: &[&[u8]]) -> Result<Vec<u8>, Fail> {
+    let copies = joined(alloc, copies)?;
+    joined(alloc, &[STORE, b"\x81", DOCUMENT, &copies])
+}
+
+// The line of a core.
+fn line_of(alloc: Global, core: &[&[u8]]) -> Result<String, Fail> {
+    let digits = hex::encode(alloc, joined(alloc, core)?)?;
+    Ok(format!(in alloc; "core {digits}\n")?)
 }
 
 #[test]
 fn what_is_released(rt: HostRuntime) -> Result<(), Fail> {
-    let alloc = rt.alloc();
-    for (copies, wishes, rules, core) in CASES {
-        let copies = joined(alloc, copies)?;
-        let store = joined(alloc, &[STORE, b"\x81", DOCUMENT, &copies])?;
-        let outcome = drafted(alloc, &store, wishes, rules)?;
-        let digits = hex::encode(alloc, joined(alloc, core)?)?;
-        let printed = format!(in alloc; "core {digits}\n")?;
-        assert_eq!(rt; outcome.status.as_str(), "Done", "{wishes} {rules}");
-        assert_eq!(rt;
-            outcome.printed.as_slice(),
+    for (copies, wishes, rules, core) in &CASES {
+        let store = store_of(rt.alloc(), copies)?;
+        let printed = line_of(rt.alloc(), core)?;
+        let is_drafted = drafts(
+            rt.alloc(),
+            &store,
+            (wishes, rules),
+            "Done",
             printed.as_bytes(),
-            "{wishes} {rules}"
-        );
+        )?;
+        assert!(rt; is_drafted, "{wishes} {rules}");
     }
     Ok(())
 }
 
-// Bytes that are no store, and how they are refused: nothing is printed.
+// Bytes that are no store, in two parts, and how they are refused.
+const NO_STORES: [(&[u8], &[u8], &str); 9] = [
+    (b"", b"", "Form Store Cbor Truncated 0"),
+    (STORE, b"", "Form Store Cbor Truncated 20"),
+    (
+        b"\xa2\x67version\x01\x69document",
+        b"",
+        "Form Store Cbor Truncated 10",
+    ),
+    (STORE, b"\x80\x00", "Form Store Cbor Trailing 21"),
+    (
+        b"\xa2\x67version\x09\x69documents",
+        b"\x80",
+        "Form Store Version 9",
+    ),
+    (STORE, b"\x81", "Form Store Cbor Truncated 21"),
+    (STORE, b"\x81\x80", "Form Store Field docType 21"),
+    (b"\xa1\x69documents", b"\x80", "Form Store Field version 0"),
+    (
+        b"\xa4\x61a\x01\x67version\x01\x67version\x01",
+        b"",
+        "Form Store Doubled 13",
+    ),
+];
+
 #[test]
 fn no_stores(rt: HostRuntime) -> Result<(), Fail> {
-    let alloc = rt.alloc();
-    for (front, back, status) in [
-        (
-            b"".as_slice(),
-            b"".as_slice(),
-            "Form Store Cbor Truncated 0",
-        ),
-        (STORE, b"", "Form Store Cbor Truncated 20"),
-        (
-            b"\xa2\x67version\x01\x69document",
+    for (front, back, status) in &NO_STORES {
+        let store = joined(rt.alloc(), &[front, back])?;
+        let is_refused = drafts(
+            rt.alloc(),
+            &store,
+            ("document d\nwant n a 0\n", ALL),
+            status,
             b"",
-            "Form Store Cbor Truncated 10",
-        ),
-        (STORE, b"\x80\x00", "Form Store Cbor Trailing 21"),
-        (
-            b"\xa2\x67version\x09\x69documents",
-            b"\x80",
-            "Form Store Version 9",
-        ),
-        (STORE, b"\x81", "Form Store Cbor Truncated 21"),
-        (STORE, b"\x81\x80", "Form Store Field docType 21"),
-        (b"\xa1\x69documents", b"\x80", "Form Store Field version 0"),
-        (
-            b"\xa4\x61a\x01\x67version\x01\x67version\x01",
-            b"",
-            "Form Store Doubled 13",
-        ),
-    ] {
-        let store = joined(alloc, &[front, back])?;
-        let outcome = drafted(alloc, &store, "document d\nwant n a 0\n", ALL)?;
-        assert_eq!(rt; outcome.status.as_str(), status, "{store:?}");
-        assert!(rt; outcome.printed.as_slice().is_empty(), "{store:?}");
+        )?;
+        assert!(rt; is_refused, "{store:?}");
     }
     Ok(())
 }

@@ -1,4 +1,4 @@
-//! Worked cases of keys, messages and issuer-signed items, as tests alone.
+//! Worked cases of maps with named keys, keys, messages and issuer-signed items, as tests alone.
 #![tactic(auto)]
 
 #[cfg(test)]
@@ -7,5 +7,7 @@ mod items;
 mod keys;
 #[cfg(test)]
 mod messages;
+#[cfg(test)]
+mod named_maps;
 #[cfg(test)]
 mod vectors;

@@ -1,6 +1,5 @@
 //! How a definition that asks is written, the function that follows it, and the loop: an example of
-//! each piece of the theory of questions (`key_device`), by public calls alone, and tests of its
-//! calls at devices and dice that fail.
+//! each piece of the theory of questions (`key_device`), by public calls alone.
 #![tactic(auto)]
 
 mod chain;
@@ -21,6 +20,3 @@ pub use replaying::replayed;
 pub use search::signer_among;
 pub use signing::{made_and_signed, signed, signed_by_each};
 pub use verdict::{Verdict, judged, judged_each};
-
-#[cfg(test)]
-mod tests;

@@ -1,3 +1,3 @@
-mod AlikeLemmas
-mod GrowLemmas
-mod RoundLemmas
+pub mod AlikeLemmas
+pub mod GrowLemmas
+pub mod RoundLemmas

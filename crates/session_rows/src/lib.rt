@@ -1,8 +1,10 @@
-//! Worked cases of device engagement, of its text, and of the transcript of a session, as tests alone.
+//! Worked cases of device engagement, of its text, of engagement files, and of the transcript of a session, as tests alone.
 #![tactic(auto)]
 
 #[cfg(test)]
 mod engagements;
+#[cfg(test)]
+mod files;
 #[cfg(test)]
 mod texts;
 #[cfg(test)]

@@ -101,21 +101,28 @@ fn status_in_place_of_the_first_message(rt: HostRuntime) {
     assert!(rt; wallet_ends(ended, WalletEnd::MessageForm, Some(DECODING)));
 }
 
-/// The first message with one bit of its last byte changed.
-fn changed_first(alloc: Global) -> Option<Vec<u8>> {
-    let mut changed = first_request(alloc)?.message.as_slice().to_vec(alloc).ok()?;
-    *changed.last_mut()? ^= 1;
-    Some(changed)
+/// The message with one bit changed of the byte at that place from its end, the last being 1.
+fn changed(alloc: Global, message: &[u8], from_end: usize) -> Option<Vec<u8>> {
+    let mut bytes = message.to_vec(alloc).ok()?;
+    let place = bytes.len().checked_sub(from_end)?;
+    *bytes.get_mut(place)? ^= 1;
+    Some(bytes)
 }
 
-fn end_by_changed_first(alloc: Global) -> Option<WalletEnded> {
-    end_by_first(alloc, &changed_first(alloc)?)
+fn end_by_changed_first(alloc: Global, from_end: usize) -> Option<WalletEnded> {
+    let first = first_request(alloc)?.message;
+    end_by_first(alloc, &changed(alloc, first.as_slice(), from_end)?)
 }
 
 #[test]
 fn first_message_changed(rt: HostRuntime) {
-    let ended = end_by_changed_first(rt.alloc());
-    assert!(rt; wallet_ends(ended, WalletEnd::Sealed, Some(ENCRYPTION)));
+    for from_end in 1..=16 {
+        let ended = end_by_changed_first(rt.alloc(), from_end);
+        assert!(rt;
+            wallet_ends(ended, WalletEnd::Sealed, Some(ENCRYPTION)),
+            "{from_end} from the end"
+        );
+    }
 }
 
 /// How the wallet's session ends by a later message, where it does.
@@ -194,6 +201,22 @@ fn end_by_answer(alloc: Global, message: &[u8]) -> Option<ReaderEnded> {
         return None;
     }
     ending(reader.open_next(alloc, message))
+}
+
+fn end_by_changed_answer(alloc: Global, from_end: usize) -> Option<ReaderEnded> {
+    let answer = first_answer(alloc)?.message;
+    end_by_answer(alloc, &changed(alloc, answer.as_slice(), from_end)?)
+}
+
+#[test]
+fn first_answer_changed(rt: HostRuntime) {
+    for from_end in 1..=21 {
+        let ended = end_by_changed_answer(rt.alloc(), from_end);
+        assert!(rt;
+            reader_ends(ended, ReaderEnd::Sealed, Some(ENCRYPTION)),
+            "{from_end} from the end"
+        );
+    }
 }
 
 /// Answers that end the reader's session, each with the check and the last message.

@@ -7,9 +7,10 @@ use Rattle.cbor_maps.specs.Reading.{entry}
 use Rattle.issuer_items.specs.Item.{item as issuer_item}
 use Rattle.doc_store.specs.Item.{item}
 use Rattle.doc_store.specs.Store.{store}
+use Rattle.doc_response.specs.Answered.{document_error, errors_map, items_map}
 use Rattle.mdoc_program.specs.Core.{core_bytes, document_bytes}
 use Rattle.mdoc_program.proofs.laws.absent_document.Goals as goal
 
 pub returns : goal.returns
-unfolding chars core_bytes document_bytes encode entries_at entry head_at inner is_utf8 issuer_item item item_at items_at pairs_at parts_at reads size store tree_of
+unfolding chars core_bytes document_bytes document_error encode entries_at entry errors_map head_at inner is_utf8 issuer_item item item_at items_at items_map pairs_at parts_at reads size store tree_of
 returns c = refl

@@ -7,7 +7,7 @@ pub dispatch-requires : goal.dispatch-requires
 dispatch-requires g c = in_form c.args.words.now (order_seen c.in-Some.order) c.in-Some.ensures
 
 pub returns-clause-usage : goal.returns-clause-usage
-returns-clause-usage g c = no_usage c.args.words.now (order_seen c.in-Some.order) _ _ c.dispatch.result c.in-Some.ensures c.dispatch.ensures
+returns-clause-usage g c = no_usage c.args.words.now (order_seen c.in-Some.order) _ _ _ _ c.dispatch.result c.in-Some.ensures c.dispatch.ensures.does
 
 pub returns-clause-runs : goal.returns-clause-runs
-returns-clause-runs g c = runs c.args.words.now (order_seen c.in-Some.order) _ _ c.dispatch.result c.in-Some.ensures c.dispatch.ensures
+returns-clause-runs g c = runs c.args.words.now (order_seen c.in-Some.order) _ _ _ _ c.dispatch.result c.in-Some.ensures c.dispatch.ensures.does

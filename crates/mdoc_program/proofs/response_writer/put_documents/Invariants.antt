@@ -1,6 +1,5 @@
 use Rattle.std.proofs.Common.{◌≡◌, ◌++◌, map, take}
 use Rattle.std.specs.Prelude.{flat_map}
-use Rattle.mdoc_program.specs.AnsweredDocument.{answered_seen}
 use Rattle.mdoc_program.specs.Core.{document_bytes}
 use Rattle.mdoc_program.specs.Entry.{given_of}
 use Rattle.mdoc_program.proofs.response_writer.put_documents.Given as goal
@@ -8,4 +7,4 @@ use Rattle.mdoc_program.proofs.response_writer.put_documents.Given as goal
 -- the documents so far
 abbrev pub invariant-loop-document : goal.invariant-loop-document
 invariant-loop-document l =
-    l.build ≡ l.initial.build ++ flat_map (λ part. part) (map document_bytes (given_of (map answered_seen (take l.document-index l.documents))))
+    l.build ≡ l.initial.build ++ flat_map (λ part. part) (map document_bytes (given_of (take l.document-index l.documents)))

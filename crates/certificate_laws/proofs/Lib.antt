@@ -1,0 +1,14 @@
+pub mod Steps
+pub mod Made
+pub mod Counts
+pub mod Numbers
+pub mod Parts
+pub mod Usages
+pub mod Tbs
+pub mod Whole
+pub mod Firsts
+pub mod Shapes
+pub mod Rows
+pub mod Faulty
+pub mod Lying
+pub mod EachPart

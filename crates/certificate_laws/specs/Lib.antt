@@ -1,0 +1,6 @@
+pub mod Extensions
+pub mod Faults
+pub mod IsCertificate
+pub mod MadeOf
+pub mod Numbers
+pub mod PartsLie

@@ -1,0 +1,86 @@
+//! The checks of a document, in their order.
+
+ghost use Rattle.std.specs.Prelude.{◌≡◌, IfOk, true};
+ghost use Rattle.mdoc_outside.specs.Faults.{HasCause};
+ghost use Rattle.doc_response.specs.ResponseDocs.{document_seen};
+ghost use Rattle.key_device.specs.Gave.{Gave};
+ghost use Rattle.key_device.specs.Plan.{Follows};
+ghost use Rattle.key_device.specs.Recording.{inner, talk};
+ghost use Rattle.mso_digests.specs.Digests.{have_length};
+ghost use Rattle.mso_digests.specs.MsoView.{said};
+ghost use Rattle.verdict_model.specs.Documents.{document_checks};
+ghost use Rattle.verdict_model.specs.Elements.{is_type_requested};
+ghost use Rattle.document_checks.specs.Checks.{issued_and_shown};
+ghost use Rattle.document_checks.specs.Ending.{came_to};
+ghost use Rattle.document_checks.specs.Views.{issued_seen, setting_seen};
+ghost use Rattle.document_checks.specs.declared.stop.Stop.TheVariants.{Device, Memory};
+
+use crate::issued::issuer_says;
+use crate::shown::shown;
+use crate::{Issued, Setting, Stop};
+use doc_request::RequestDraft;
+use doc_response::ResponseDoc;
+use key_device::{KeyDevice, Recorder};
+use std::alloc::Global;
+use verdict_model::DocCheck;
+
+/// Whether a request asks for a document of that type.
+fn is_type_requested(request: &RequestDraft, doc_type: &str) -> bool
+    ensures { result ≡ is_type_requested request.now doc_type.now }
+{
+    for asked in request.documents.as_slice() {
+        if asked.doc_type.as_slice() == doc_type.as_bytes() {
+            return true;
+        }
+    }
+    false
+}
+
+/// What the issuer says of a document that its device shows.
+#[tactic(auto, using(key_device::proofs::PlanLemmas::exits, key_device::proofs::GaveLemmas::gave_exits))]
+fn issued_and_shown<'a, D: KeyDevice>(
+    alloc: Global,
+    setting: &Setting<'_>,
+    document: &ResponseDoc<'a>,
+    device: &mut Recorder<D>,
+) -> Result<Issued<'a>, Stop>
+    ensures asked { Follows (issued_and_shown (setting_seen setting.now) (document_seen document.now)) (talk device.old) (talk device.new) (came_to issued_seen result) }
+    ensures lengths { IfOk result (λ it. have_length (said it.object).digests ≡ true) }
+    ensures gave { Gave D.gives D.unasked D.faults device.old device.new }
+    ensures cause { HasCause Device Memory (D.faults (inner device.old)) (D.faults (inner device.new)) result }
+{
+    let it = match issuer_says(
+        alloc,
+        setting,
+        document.doc_type(),
+        document.issuer_auth(),
+        device,
+    ) {
+        Ok(it) => it,
+        Err(stop) => return Err(stop),
+    };
+    match shown(alloc, &setting.session, &it.key, document, device) {
+        Ok(()) => Ok(it),
+        Err(stop) => Err(stop),
+    }
+}
+
+/// What the issuer says of a document that is accepted, else why its checks end (ISO/IEC 18013-5, 9.3.1). `Stop::Device` is
+/// answered only where the device failed.
+#[tactic(auto, using(key_device::proofs::PlanLemmas::exits, key_device::proofs::GaveLemmas::gave_exits), unfolding(verdict_model::specs::Documents::document_checks))]
+pub fn document_checks<'a, D: KeyDevice>(
+    alloc: Global,
+    setting: &Setting<'_>,
+    document: &ResponseDoc<'a>,
+    device: &mut Recorder<D>,
+) -> Result<Issued<'a>, Stop>
+    ensures asked { Follows (document_checks (setting_seen setting.now) (document_seen document.now)) (talk device.old) (talk device.new) (came_to issued_seen result) }
+    ensures lengths { IfOk result (λ it. have_length (said it.object).digests ≡ true) }
+    ensures gave { Gave D.gives D.unasked D.faults device.old device.new }
+    ensures cause { HasCause Device Memory (D.faults (inner device.old)) (D.faults (inner device.new)) result }
+{
+    if !is_type_requested(setting.request, document.doc_type()) {
+        return Err(Stop::Refused(DocCheck::DocNotRequested));
+    }
+    issued_and_shown(alloc, setting, document, device)
+}

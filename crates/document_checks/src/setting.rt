@@ -1,0 +1,26 @@
+//! What a response is judged by.
+
+use cert_view::Root;
+use doc_request::RequestDraft;
+
+/// What both ends know of a session.
+#[derive(Clone, Copy)]
+pub struct Session<'a> {
+    /// The bytes of SessionTranscript (ISO/IEC 18013-5, 9.1.5.1).
+    pub transcript: &'a [u8],
+    /// The number of the reader's ephemeral key.
+    pub key: u32,
+}
+
+/// What a response is judged by.
+#[derive(Clone, Copy)]
+pub struct Setting<'a> {
+    /// The request that it answers.
+    pub request: &'a RequestDraft,
+    /// The session.
+    pub session: Session<'a>,
+    /// The trusted roots, in their order.
+    pub roots: &'a [Root],
+    /// The moment of the judgement, in seconds since 1970.
+    pub moment: i64,
+}

@@ -1,0 +1,5 @@
+pub mod ElementLemmas
+pub mod ItemLemmas
+mod ItemLengths
+mod MadeCopies
+pub mod ObjectLemmas

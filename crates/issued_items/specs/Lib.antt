@@ -1,0 +1,2 @@
+pub mod IssuedItems
+pub mod MadeCopies

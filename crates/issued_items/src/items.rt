@@ -1,0 +1,88 @@
+//! The items of a copy.
+
+ghost use Rattle.std.specs.Prelude.{◌≡◌, ◌≤◌, length, IfOk, IsTrue};
+ghost use Rattle.cbor_view.specs.Tree.{levels};
+ghost use Rattle.cbor_view.specs.View.{part, tree};
+ghost use Rattle.issuing.specs.SpecFacts.{AreElements, is_element};
+ghost use Rattle.issued_items.specs.IssuedItems.{issued_item, items_of, number_in};
+
+use crate::IssuedItem;
+use cbor_view::View;
+use issuer_items::write_item;
+use issuing::SpecElement;
+use mdoc_outside::{Memory, Octets, Rows};
+use std::alloc::Global;
+
+/// How many of the elements are of that namespace.
+fn number_in(ns: &[u8], elements: &[SpecElement]) -> usize
+    ensures number { result ≡ number_in ns.now elements.now }
+    ensures few { result ≤ length elements.now }
+{
+    let mut count = 0;
+    for element in elements {
+        if element.ns.as_slice() == ns {
+            count += 1;
+        }
+    }
+    count
+}
+
+/// The name of an element, as text.
+#[tactic(auto, using(crate::proofs::ElementLemmas::name_text))]
+fn name_of(element: &SpecElement) -> &str
+    requires { IsTrue (is_element element.now) }
+    ensures { result.now ≡ element.now.name }
+{
+    match str::from_utf8(element.name.as_slice()) {
+        Ok(name) => name,
+        Err(_) => unreachable!(),
+    }
+}
+
+/// The value of an element.
+fn value_of(element: &SpecElement) -> View<'_>
+    requires { IsTrue (is_element element.now) }
+    ensures bytes { (part result).bytes ≡ element.now.value }
+    ensures nesting { levels (tree result) ≤ 31 }
+{
+    match View::read(element.value.as_slice()) {
+        Ok(value) => value,
+        Err(_) => unreachable!(),
+    }
+}
+
+/// The item of an element, which has these others before it.
+fn write_one(
+    alloc: Global,
+    before: &[SpecElement],
+    element: &SpecElement,
+    salt: &[u8; 32],
+) -> Result<IssuedItem, Memory>
+    requires { IsTrue (is_element element.now) }
+    ensures { IfOk result (λ i. i ≡ issued_item before.now element.now salt.now) }
+{
+    let number = number_in(element.ns.as_slice(), before) as u64;
+    let raw = write_item(alloc, number, salt, name_of(element), value_of(element))?;
+    let ns = Octets::copy_of(alloc, element.ns.as_slice())?;
+    Ok(IssuedItem { ns, number, raw })
+}
+
+/// The items of the elements of a spec, each with its salt. Their digest identifiers are 0, 1, 2 and so on within a
+/// namespace.
+pub fn write_items(
+    alloc: Global,
+    elements: &[SpecElement],
+    salts: &[[u8; 32]],
+) -> Result<Rows<IssuedItem>, Memory>
+    requires elements { AreElements elements.now }
+    requires salts { length salts.now ≡ length elements.now }
+    ensures { IfOk result (λ items. items ≡ items_of elements.now salts.now) }
+{
+    let mut items = Vec::new(alloc);
+    for (place, element) in elements.iter().enumerate() {
+        items.reserve(1)?;
+        let item = write_one(alloc, &elements[..place], element, &salts[place])?;
+        items.push_reserved(item);
+    }
+    Ok(Rows::from_vec(items))
+}

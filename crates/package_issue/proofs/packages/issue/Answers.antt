@@ -1,0 +1,58 @@
+use Rattle.std.proofs.Common.{refl, ◌∙◌}
+use Rattle.mdoc_outside.proofs.GaveWordsLemmas.{words_none}
+use Rattle.key_device.proofs.AllPlanLemmas.{all_more, all_unasked, by_other}
+use Rattle.key_device.proofs.GaveLemmas.{gave_none, gave_then}
+use Rattle.key_device.specs.PlanSteps.{unless_fault}
+use Rattle.issuing.specs.Spec.{fields}
+use Rattle.issue_questions.proofs.IssueLemmas.{all_ended_early, by_issuer, failed_then, issuer_failed}
+use Rattle.issue_questions.specs.Ends.{of_device}
+use Rattle.package_issue.proofs.LimitLemmas.{limit_causes, limit_ends, limit_within}
+use Rattle.package_issue.specs.Package.{issued_package, with_copies, with_signer}
+use Rattle.package_issue.proofs.packages.issue.Goals as goal
+
+pub returns-in-Err : goal.returns-in-Err
+unfolding issued_package
+returns-in-Err g c = record {
+  asked = rw c.from.ensures (all_ended_early (with_signer (fields c.args.spec.now)) (of_device c.in-Err.fault) (by_issuer c.in-Err.fault _ _ c.in-Err.ensures.asked));
+  holder = gave_none _;
+  issuer = c.in-Err.ensures.gave;
+  words = words_none refl refl;
+  cause = rw c.from.ensures (issuer_failed c.in-Err.fault refl refl c.in-Err.ensures.cause);
+  within = tt;
+}
+
+pub returns-in-Err-issue_copies : goal.returns-in-Err-issue_copies
+unfolding issued_package
+returns-in-Err-issue_copies g c = record {
+  asked = all_more (unless_fault (with_signer (fields c.args.spec.now))) (by_other _ _ c.in-Ok.ensures.asked)
+      (all_ended_early (with_copies (fields c.args.spec.now) c.in-Ok.signer.root) c.in-Err-issue_copies.fault c.in-Err-issue_copies.ensures.asked);
+  holder = c.in-Err-issue_copies.ensures.holder;
+  issuer = gave_then c.in-Ok.ensures.gave c.in-Err-issue_copies.ensures.issuer;
+  words = c.in-Err-issue_copies.ensures.words;
+  cause = failed_then _ _ _ c.in-Err-issue_copies.fault refl c.in-Ok.ensures.cause.done refl c.in-Err-issue_copies.ensures.cause;
+  within = tt;
+}
+
+pub returns-in-Err-package_of : goal.returns-in-Err-package_of
+unfolding issued_package
+returns-in-Err-package_of g c = record {
+  asked = all_more (unless_fault (with_signer (fields c.args.spec.now))) (by_other _ _ c.in-Ok.ensures.asked)
+      (all_more (unless_fault (with_copies (fields c.args.spec.now) c.in-Ok.signer.root)) c.in-Ok-issue_copies.ensures.asked (all_unasked refl refl refl));
+  holder = c.in-Ok-issue_copies.ensures.holder;
+  issuer = gave_then c.in-Ok.ensures.gave c.in-Ok-issue_copies.ensures.issuer;
+  words = c.in-Ok-issue_copies.ensures.words;
+  cause = (c.in-Ok-issue_copies.ensures.cause.0, c.in-Ok-issue_copies.ensures.cause.1 ∙ c.in-Ok.ensures.cause.done, c.in-Ok-issue_copies.ensures.cause.2);
+  within = tt;
+}
+
+pub returns : goal.returns
+unfolding issued_package
+returns g c = rw (c.within_limit.ensures, c.in-Ok-package_of.ensures, c.as_slice.ensures) (record {
+  asked = all_more (unless_fault (with_signer (fields c.args.spec.now))) (by_other _ _ c.in-Ok.ensures.asked)
+      (all_more (unless_fault (with_copies (fields c.args.spec.now) c.in-Ok.signer.root)) c.in-Ok-issue_copies.ensures.asked (limit_ends _ _ _ _ _));
+  holder = c.in-Ok-issue_copies.ensures.holder;
+  issuer = gave_then c.in-Ok.ensures.gave c.in-Ok-issue_copies.ensures.issuer;
+  words = c.in-Ok-issue_copies.ensures.words;
+  cause = limit_causes _ _ _ _ _ _ _ _ (c.in-Ok-issue_copies.ensures.cause.0, c.in-Ok-issue_copies.ensures.cause.1 ∙ c.in-Ok.ensures.cause.done, c.in-Ok-issue_copies.ensures.cause.2);
+  within = limit_within _ _;
+})

@@ -1,0 +1,88 @@
+//! Issuing by a spec.
+
+ghost use Rattle.std.specs.Prelude.{◌≡◌, ◌≤◌, length, IfOk};
+ghost use Rattle.issuing.specs.Spec.{fields};
+ghost use Rattle.mdoc_outside.specs.Dealt.{dealt, inner as dice_of};
+ghost use Rattle.mdoc_outside.specs.GaveWords.{GaveWords};
+ghost use Rattle.key_device.specs.Gave.{Gave};
+ghost use Rattle.key_device.specs.Plan.{FollowsAll};
+ghost use Rattle.key_device.specs.Recording.{inner, talk};
+ghost use Rattle.issue_questions.specs.Ends.{Cause, end_at};
+ghost use Rattle.package_issue.specs.Package.{issued_package, package_bytes, within_limit};
+
+use crate::Issued;
+use document_signer::{Signer, signer_of};
+use issue_questions::IssueFault;
+use issued_copies::issue_copies;
+use issued_items::document_type;
+use issuing::Spec;
+use key_device::{KeyDevice, Recorder};
+use mdoc_outside::{Dealt, Dice, LimitName, Memory, Octets};
+use std::alloc::Global;
+use store_write::write_package;
+
+/// The most bytes of a package.
+const MOST_BYTES: usize = 16_777_216;
+
+/// The bytes of the package of a spec with these copies.
+fn package_of(alloc: Global, spec: &Spec, copies: &[Octets]) -> Result<Octets, Memory>
+    ensures { IfOk result (λ b. b ≡ package_bytes (fields spec.now) copies.now) }
+{
+    write_package(alloc, document_type(spec), spec.uses_mac(), copies)
+}
+
+/// What was issued, where the package is within its limit.
+#[tactic(auto, using(crate::proofs::LimitLemmas::above, crate::proofs::LimitLemmas::below))]
+fn within_limit(root: Option<Octets>, bytes: Octets) -> Result<Issued, IssueFault>
+    ensures { result ≡ within_limit root bytes }
+{
+    let length = bytes.as_slice().len();
+    if length > MOST_BYTES {
+        return Err(IssueFault::Limit(LimitName::PackageBytes, length as u64));
+    }
+    Ok(Issued {
+        package: bytes,
+        root,
+    })
+}
+
+/// Issues the copies that a spec asks for (ISO/IEC 18013-5, 9.1.2). With a new signer, the issuer's device makes a root
+/// key and a signer key and signs their certificates first. For each copy in order the holder's device makes a key,
+/// four words are drawn for the salt of each element, and the issuer's device signs. It refuses where a device or the
+/// dice fail, exactly where the package passes 16,777,216 bytes, and for want of memory.
+pub fn issue<D: KeyDevice, E: KeyDevice, R: Dice>(
+    alloc: Global,
+    spec: &Spec,
+    holder: &mut Recorder<D>,
+    issuer: &mut Recorder<E>,
+    dice: &mut Dealt<R>,
+) -> Result<Issued, IssueFault>
+    ensures asked { FollowsAll (issued_package (fields spec.now)) (talk holder.old) (talk issuer.old) (dealt dice.old)
+        (talk holder.new) (talk issuer.new) (dealt dice.new) (end_at result) }
+    ensures holder { Gave D.gives D.unasked D.faults holder.old holder.new }
+    ensures issuer { Gave E.gives E.unasked E.faults issuer.old issuer.new }
+    ensures words { GaveWords R.gives R.faults dice.old dice.new }
+    ensures cause { Cause (D.faults (inner holder.old)) (D.faults (inner holder.new)) (E.faults (inner issuer.old)) (E.faults (inner issuer.new))
+        (R.faults (dice_of dice.old)) (R.faults (dice_of dice.new)) result }
+    ensures within { IfOk result (λ i. length i.package ≤ 16_777_216) }
+{
+    let signer = match signer_of(alloc, spec, issuer) {
+        Ok(signer) => signer,
+        Err(fault) => return Err(IssueFault::from(fault)),
+    };
+    let copies = match issue_copies(alloc, spec, &signer, holder, issuer, dice) {
+        Ok(copies) => copies,
+        Err(fault) => return Err(fault),
+    };
+    let bytes = match package_of(alloc, spec, copies.as_slice()) {
+        Ok(bytes) => bytes,
+        Err(_) => return Err(IssueFault::Memory),
+    };
+    let Signer {
+        key: _,
+        certificate,
+        root,
+    } = signer;
+    drop(certificate);
+    within_limit(root, bytes)
+}

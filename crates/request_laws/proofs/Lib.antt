@@ -1,0 +1,11 @@
+pub mod Authentications
+pub mod DocumentsRead
+pub mod Grouping
+pub mod ItemsRead
+pub mod Lengths
+pub mod Names
+pub mod NamesConfirmed
+pub mod Openers
+pub mod Opened
+pub mod RequestsRead
+pub mod SpacesRead

@@ -1,0 +1,9 @@
+pub mod AuthRead
+pub mod CallsKeep
+pub mod DeviceRead
+pub mod DocumentRead
+pub mod ErrorsRead
+pub mod IssuerRead
+pub mod NamedMaps
+pub mod ResponseRead
+pub mod WholeDocument

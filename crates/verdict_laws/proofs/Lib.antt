@@ -1,0 +1,2 @@
+pub mod FirstCheck
+pub mod Elements

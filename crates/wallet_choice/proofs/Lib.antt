@@ -1,0 +1,3 @@
+pub mod ChoiceLemmas
+pub mod Places
+pub mod SelectionLemmas

@@ -1,0 +1,4 @@
+pub mod AfterEnd
+pub mod RoundSteps
+pub mod RunLemmas
+pub mod Taken

@@ -1,0 +1,4 @@
+pub mod LineWords
+pub mod Going
+pub mod Outcomes
+pub mod Files

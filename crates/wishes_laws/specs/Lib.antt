@@ -1,0 +1,2 @@
+pub mod BadLine
+pub mod WishesFile
