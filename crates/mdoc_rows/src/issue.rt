@@ -8,7 +8,8 @@ const WORDS: &str = "issue --spec s --out p";
 
 const NO_FAILS: Fails<'static> = (&[], &[]);
 
-const SPEC: &[u8] = b"type d.e\nauth mac\ncopies 2\nsigner new\nsigned 2024-01-01T00:00:00Z\nfrom 2024-01-02T00:00:00Z\n\
+const SPEC: &[u8] =
+    b"type d.e\nauth mac\ncopies 2\nsigner new\nsigned 2024-01-01T00:00:00Z\nfrom 2024-01-02T00:00:00Z\n\
     until 2059-12-31T23:59:59Z\nupdate 2025-01-01T00:00:00Z\nelement n a text x\nelement m b uint 7\nelement n c bool true\n\
     element n d bytes 000000000000000000000000000000000000000000000000000000000000\n";
 
@@ -54,14 +55,14 @@ fn package_is_written_before_the_lines(rt: HostRuntime) -> Result<(), Fail> {
     let first: &[&str] = &[ROOT, "!"];
     let cases: [(&str, Fails<'static>, &str, &str, &[&str]); 7] = [
         (WORDS, NO_FAILS, "Done", "rs wp", both),
+        ("issue --out p --spec s", NO_FAILS, "Done", "rs wp", both),
         (
-            "issue --out p --spec s",
+            "issue --spec n --out p",
             NO_FAILS,
-            "Done",
-            "rs wp",
-            both,
+            "Missing Spec",
+            "rn",
+            &[],
         ),
-        ("issue --spec n --out p", NO_FAILS, "Missing Spec", "rn", &[]),
         (WORDS, (&[0], &[]), "Cabinet", "Rs", &[]),
         (WORDS, (&[1], &[]), "Cabinet", "rs Wp", &[]),
         (WORDS, (&[], &[0]), "Sink", "rs wp", &["!"]),

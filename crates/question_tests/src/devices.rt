@@ -1,10 +1,11 @@
 // What no clause says: the toy's formulas against values from outside, tapes that are in the
 // grammar or not, and one call of each public function with ample memory.
 use key_device::{
-    DeviceFault, KeyDevice, Point, Recorder, ReplayDevice, TapeFault, ToyDevice, failures_told_are_counted,
-    followed_plan_has_one_outcome, followed_plan_over_its_sources, followed_plan_over_its_talk,
-    followed_plan_over_what_was_left, own_devices_give_as_they_say, plans_are_followed_in_parts,
-    steps_go_on_at_the_end, types_are_send_and_sync, written_tape_is_read,
+    DeviceFault, KeyDevice, Point, Recorder, ReplayDevice, TapeFault, ToyDevice,
+    failures_told_are_counted, followed_plan_has_one_outcome, followed_plan_over_its_sources,
+    followed_plan_over_its_talk, followed_plan_over_what_was_left, own_devices_give_as_they_say,
+    plans_are_followed_in_parts, steps_go_on_at_the_end, types_are_send_and_sync,
+    written_tape_is_read,
 };
 use std::alloc::Global;
 use std::test::Fail;
