@@ -1,0 +1,4 @@
+pub mod Strings
+pub mod Messages
+pub mod Keys
+pub mod Items

@@ -1,0 +1,3 @@
+pub mod ItemLies
+pub mod MessageLies
+pub mod StringLies

@@ -1,0 +1,8 @@
+//! Laws of COSE messages, of keys (RFC 9052) and of issuer-signed items (ISO/IEC 18013-5, 8.3.2.1.2.2), alone.
+//!
+//! The one contract: what is read of them stands in the bytes that they were read from, each part at its place.
+#![tactic(auto)]
+
+mod laws;
+
+pub use laws::{code_lies, item_lies, key_lies, signature_lies, whole_lies};
