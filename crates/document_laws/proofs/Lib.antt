@@ -1,0 +1,4 @@
+mod Lists
+mod Walks
+mod Roots
+mod FirstFailure
