@@ -1,4 +1,4 @@
-"""Writing of CBOR (RFC 8949) in its shortest form, for the scripts that make stores. An item is its bytes."""
+"""CBOR (RFC 8949) in its shortest form, for the scripts that make stores. An item is its bytes."""
 
 
 def head(major, number):
@@ -40,3 +40,27 @@ def embedded(item):
 
 def boolean(value):
     return b"\xf5" if value else b"\xf4"
+
+
+def decoded(data, at=0):
+    """The value of an item, and the place behind it; an item under a tag is its value."""
+    major, info = data[at] >> 5, data[at] & 31
+    at += 1
+    number = info
+    if info >= 24:
+        size = 1 << info - 24
+        number, at = int.from_bytes(data[at:at + size], "big"), at + size
+    if major in (0, 1):
+        return (number, -1 - number)[major], at
+    if major in (2, 3):
+        value = data[at:at + number]
+        return (value if major == 2 else value.decode()), at + number
+    if major == 6:
+        return decoded(data, at)
+    if major == 7:
+        return {20: False, 21: True}.get(info), at
+    values = []
+    for _ in range(number * (major - 3)):
+        value, at = decoded(data, at)
+        values.append(value)
+    return (values if major == 4 else dict(zip(values[::2], values[1::2]))), at

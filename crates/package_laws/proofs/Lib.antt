@@ -1,0 +1,11 @@
+pub mod SpecValueItems
+pub mod SpecLineItems
+pub mod SpecItems
+pub mod PlanParts
+pub mod CopyParts
+pub mod WrittenLengths
+pub mod ItemsOfSpec
+pub mod Namespaces
+pub mod CopiesStored
+pub mod ObjectsSigned
+pub mod Packages

@@ -1,0 +1,2 @@
+pub mod IssuedCopies
+pub mod IssuedStores
