@@ -60,7 +60,7 @@ signature-of-four chain payload signature chain_short payload_short size at =
 
 -- ---- namespaces
 
-weaker : {A : Type 0} (P Q : A → Type 0) → ((x : A) → P x → Q x) → (xs : List A) → AllByRecursion P xs → AllByRecursion Q xs
+pub weaker : {A : Type 0} (P Q : A → Type 0) → ((x : A) → P x → Q x) → (xs : List A) → AllByRecursion P xs → AllByRecursion Q xs
 weaker P Q known [] all = tt
 weaker P Q known (x ∷ xs) all = (known x all.0, weaker P Q known xs all.1)
 

@@ -8,4 +8,5 @@ pub mod ItemsOfSpec
 pub mod Namespaces
 pub mod CopiesStored
 pub mod ObjectsSigned
+pub mod Regrouped
 pub mod Packages

@@ -26,7 +26,7 @@ use Rattle.mso_digests.specs.Written.{drafted}
 use Rattle.package_issue.specs.Package.{issued_package, package_bytes, with_copies, with_signer, within_limit}
 use Rattle.package_issue.specs.declared.issued.Issued.{Issued}
 use Rattle.store_laws.proofs.WrittenRead.{written-read}
-use Rattle.store_laws.specs.Storable.{IsCopy, IsDocument, IsStore}
+use Rattle.store_laws.specs.Storable.{IsCopy, IsDocument, IsStore, copy_by_namespace}
 use Rattle.store_write.specs.Written.{copy_bytes, store_bytes}
 use Rattle.package_laws.specs.IssuedCopies.{AreIssuedSigned, ArePlannedSigned, IsSigned}
 use Rattle.package_laws.specs.IssuedStores.{IsCopyOf, IsIssuedStore, IsPlannedStore, document_of}
@@ -34,6 +34,7 @@ use Rattle.package_laws.proofs.CopiesStored.{copy-stored, signature-of-four, sig
 use Rattle.package_laws.proofs.CopyParts.{IsMade, copies-made}
 use Rattle.package_laws.proofs.ItemsOfSpec.{AreItemsOf, items-are}
 use Rattle.package_laws.proofs.ObjectsSigned.{object-made, object-read, signature-read}
+use Rattle.package_laws.proofs.Regrouped.{made-regrouped}
 use Rattle.package_laws.proofs.PlanParts.{AreLines, bound, done-walk, lines-behind, lines-front, same-value}
 use Rattle.package_laws.proofs.SpecItems.{values-are-items}
 use Rattle.package_laws.proofs.SpecLineItems.{HaveItems}
@@ -134,6 +135,9 @@ record IsPackaged (spec : SpecFields) (bytes : List ℕ) : Type 0 where
   own : AllByRecursion (IsCopyOf spec) copies
   signed : AllByRecursion (IsSigned spec) copies
 
+written-as : (spec : SpecFields) (copies : List Copy) (written : List (List ℕ)) (bytes : List ℕ) → bytes ≡ package_bytes spec written → written ≡ map copy_bytes copies → bytes ≡ store_bytes (document_of spec copies ∷ [])
+written-as spec copies written bytes one same = one ∙ ap (package_bytes spec) same
+
 packaged : (text : List ℕ) (spec : SpecFields) (issued : Issued) (es os : List Exchange) (ws : List ℕ) → spec_of text ≡ Ok spec → IsSpec spec → AreLines es → AreLines os
     → Walks (issued_package spec) es os ws (Ok issued) → IsPackaged spec issued.package
 unfolding issued_package
@@ -149,7 +153,7 @@ packaged text spec issued es os ws read is own others walk =
     let fits = within signer.root bytes issued (done-walk (within_limit signer.root bytes) (Ok issued) two.e' two.o' two.w' two.second) in
     let all = all-whole spec signer written is (values-are-items text spec read) (copies-short spec written 16_777_216 fits.short) made.all in
     let count : length all.copies ≡ spec.copies = ◌∙◌ {a = length all.copies} all.count made.number in
-    let same : issued.package ≡ store_bytes (document_of spec all.copies ∷ []) = ◌∙◌ {a = issued.package} fits.same (ap (package_bytes spec) all.bytes_are) in
+    let same = written-as spec all.copies written issued.package fits.same all.bytes_are in
     record {
       copies = all.copies;
       count = count;
@@ -172,6 +176,27 @@ document-stored spec all is count stored =
     } in
     record { few = omega arith; distinct = refl; each = (document, tt) }
 
+-- ---- copies as they are read
+
+signed-read : (spec : SpecFields) (copies : List Copy) → AllByRecursion (IsSigned spec) copies → AllByRecursion (IsSigned spec) (map copy_by_namespace copies)
+signed-read spec [] all = tt
+signed-read spec (c ∷ copies) all = let own = all.0 in (
+  record {
+    signed = own.signed;
+    signature = own.signature;
+    payload = own.payload;
+    has_payload = own.has_payload;
+    says = own.says;
+    is_object = own.is_object;
+    made_from = made-regrouped own.says c.items own.made_from;
+    doc_type = own.doc_type;
+    signed_at = own.signed_at;
+    from = own.from;
+    until = own.until;
+  },
+  signed-read spec copies all.1,
+)
+
 -- ---- the laws
 
 pub planned-store : IsPlannedStore
@@ -190,7 +215,7 @@ planned-store text spec issued es os ws read is own others walk =
 pub planned-signed : ArePlannedSigned
 planned-signed text spec issued es os ws read is own others walk =
     let all = packaged text spec issued es os ws read is (recursion_from_All HasLine es own) (recursion_from_All HasLine os others) walk in
-    record { copies = all.copies; written = all.written; each = all.signed }
+    record { copies = all.copies; written = all.written; each = all.signed; read = signed-read spec all.copies all.signed }
 
 gained : (old new more : List Exchange) → new ≡ old ++ more → All HasLine new → All HasLine more
 gained old new more same all = All-from_recursion HasLine more (lines-behind old more (recursion_from_All HasLine (old ++ more) (subst (λ (x : List Exchange). All HasLine x) same all)))

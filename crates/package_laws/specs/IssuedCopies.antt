@@ -1,6 +1,6 @@
 -- That in each copy of a package the issuer signed an object that is made from the items of the copy (ISO/IEC 18013-5,
 -- 9.1.2.4).
-use Rattle.std.specs.Prelude.{◌≡◌, ℕ, List, [], ◌∷◌, Some, Ok}
+use Rattle.std.specs.Prelude.{◌≡◌, ℕ, List, [], ◌∷◌, map, Some, Ok}
 use Rattle.std.specs.List.{All, AllByRecursion}
 use Rattle.cose_msgs.specs.Message.{Signed, sign1}
 use Rattle.cose_msgs.specs.Written.{IsReadAs}
@@ -17,6 +17,7 @@ use Rattle.mso_digests.specs.Object.{Object, object}
 use Rattle.package_issue.specs.Package.{issued_package}
 use Rattle.package_issue.specs.declared.issued.Issued.{Issued}
 use Rattle.package_laws.specs.IssuedStores.{document_of}
+use Rattle.store_laws.specs.Storable.{copy_by_namespace}
 use Rattle.store_write.specs.Written.{store_bytes}
 
 -- The issuer's signature of a copy has an object as its payload that says what the spec says, and was made from the items
@@ -34,11 +35,13 @@ pub record IsSigned (fields : SpecFields) (copy : Copy) : Type 0 where
   pub from : says.from ≡ fields.from
   pub until : says.until ≡ fields.until
 
--- The bytes are a store of one document of the spec, whose copies are signed so.
+-- The bytes are a store of one document of the spec, whose copies are signed so, also as they are read of it: with their
+-- items by their namespaces.
 pub record AreSigned (fields : SpecFields) (package_bytes : List ℕ) : Type 0 where
   pub copies : List Copy
   pub written : package_bytes ≡ store_bytes (document_of fields copies ∷ [])
   pub each : AllByRecursion (IsSigned fields) copies
+  pub read : AllByRecursion (IsSigned fields) (map copy_by_namespace copies)
 
 -- A law: by a spec that was read, the copies of each package that the plan of issuing comes to are signed so.
 abbrev pub ArePlannedSigned : Type 0
