@@ -1,5 +1,5 @@
 -- What holds of the items of a copy holds of them by their namespaces.
-use Rattle.std.proofs.Common.{◌≡◌, ◌⊎◌, ℕ, Bool, true, false, not, cond, inl, inr, List, [], ◌∷◌, ◌++◌, map, refl, sym, ap, subst, ◌∙◌}
+use Rattle.std.proofs.Common.{◌≡◌, ℕ, Bool, true, false, not, cond, inl, inr, List, [], ◌∷◌, ◌++◌, map, refl, sym, ap, subst, ◌∙◌}
 use Rattle.std.specs.Prelude.{filter}
 use Rattle.std.specs.List.{AllByRecursion, flat_map}
 use Rattle.std.specs.Str.{bytes_eq}
@@ -31,8 +31,10 @@ all-spread Q ns [] all = tt
 all-spread Q ns ((name, raw) ∷ pairs) all = go (bytes_eq name ns) refl (all-spread Q ns pairs all.1) where
   kept : List Pair
   kept = filter (λ (pair : Pair). bytes_eq pair.0 ns) pairs
+
   spread : List Pair → List Pair
   spread ps = map (λ (r : List ℕ). (ns, r)) (map (λ (pair : Pair). pair.1) ps)
+
   go : (b : Bool) → bytes_eq name ns ≡ b → AllByRecursion Q (spread kept) → AllByRecursion Q (spread (cond b ((name, raw) ∷ kept) kept))
   go true is rest = (subst (λ (x : List ℕ). Q (x, raw)) (same-text name ns is) all.0, rest)
   go false is rest = rest
@@ -66,8 +68,10 @@ some-spread P ns [] some = absurd some
 some-spread P ns ((name, raw) ∷ pairs) some = go (bytes_eq name ns) refl (some-spread P ns pairs) some where
   kept : List Pair
   kept = filter (λ (pair : Pair). bytes_eq pair.0 ns) pairs
+
   spread : List Pair → List Pair
   spread ps = map (λ (r : List ℕ). (ns, r)) (map (λ (pair : Pair). pair.1) ps)
+
   go : (b : Bool) → bytes_eq name ns ≡ b → (SomeOf (IsIn P ns) pairs → SomeOf P (spread kept)) → SomeOf (IsIn P ns) ((name, raw) ∷ pairs) → SomeOf P (spread (cond b ((name, raw) ∷ kept) kept))
   go true is more (inl holds) = inl (subst (λ (x : List ℕ). P (x, raw)) holds.1 holds.0)
   go false is more (inl holds) = absurd (let own = own-text name ns holds.1 in cc)
@@ -87,6 +91,7 @@ some-kept text ns [] other some = absurd some
 some-kept text ns (t ∷ ts) other some = go (bytes_eq text t) refl (some-kept text ns ts other) some where
   rest_kept : List (List ℕ)
   rest_kept = filter (λ (x : List ℕ). not (bytes_eq text x)) ts
+
   go : (b : Bool) → bytes_eq text t ≡ b → (SomeOf (Is ns) ts → SomeOf (Is ns) rest_kept) → SomeOf (Is ns) (t ∷ ts) → SomeOf (Is ns) (cond (not b) (t ∷ rest_kept) rest_kept)
   go true is more (inl same) = absurd (let both : bytes_eq text ns ≡ true = ap (bytes_eq text) (sym same) ∙ is in cc)
   go false is more (inl same) = inl same
