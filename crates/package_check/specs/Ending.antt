@@ -1,0 +1,50 @@
+-- What the checks of copies come to, as the definition has it.
+use Rattle.std.specs.Prelude.{ℕ, List, Bool, true, false, Option, Some, None, option_map, replicate, Result, Ok, Err}
+use Rattle.document_checks.specs.declared.stop.Stop.{Stop}
+use Rattle.document_checks.specs.declared.stop.Stop.TheVariants as stops
+use Rattle.package_check.specs.declared.failure.Failure as found
+use Rattle.package_check.specs.declared.failure.Failure.TheVariants as ways
+use Rattle.package_model.specs.Checked.{Failure, DocFails, ItemFails, Unanswered}
+
+-- whether a check ended since the device failed to answer
+abbrev pub is_device : Stop → Bool
+is_device stops.Device = true
+is_device (stops.Refused check) = false
+is_device stops.Memory = false
+
+abbrev pub fails : {A : Type 0} → Result A Stop → Bool
+fails (Ok value) = false
+fails (Err stop) = is_device stop
+
+-- the same among the checks of a copy and its items
+abbrev pub is_unanswered : found.Failure → Bool
+is_unanswered ways.Device = true
+is_unanswered (ways.DocFails check) = false
+is_unanswered (ways.ItemFails element check) = false
+is_unanswered ways.Memory = false
+
+abbrev pub copy_fails : Result (Unit {0}) found.Failure → Bool
+copy_fails (Ok u) = false
+copy_fails (Err failure) = is_unanswered failure
+
+-- what ends the issuer's part ends the checks of a copy
+abbrev pub failure_of : Stop → found.Failure
+failure_of (stops.Refused check) = ways.DocFails check
+failure_of stops.Device = ways.Device
+failure_of stops.Memory = ways.Memory
+
+-- what they come to; want of memory is no outcome
+abbrev pub came_to : Result (Unit {0}) found.Failure → Option (Result (Unit {0}) Failure)
+came_to (Ok u) = Some (Ok u)
+came_to (Err (ways.DocFails check)) = Some (Err (DocFails check))
+came_to (Err (ways.ItemFails element check)) = Some (Err (ItemFails element check))
+came_to (Err ways.Device) = Some (Err Unanswered)
+came_to (Err ways.Memory) = None
+
+-- the same of so many copies
+abbrev pub all_of : ℕ → Result (Unit {0}) Failure → Result (List (Unit {0})) Failure
+all_of count (Ok u) = Ok (replicate count u)
+all_of count (Err failure) = Err failure
+
+abbrev pub all_came_to : ℕ → Result (Unit {0}) found.Failure → Option (Result (List (Unit {0})) Failure)
+all_came_to count result = option_map (all_of count) (came_to result)
