@@ -1,0 +1,4 @@
+mod InTurn
+mod Quiet
+mod Causes
+mod Moments
