@@ -1,12 +1,11 @@
 -- What a judgement's answer says of the count of faults.
-use Rattle.std.proofs.Common.{◌≡◌, ◌≤◌, ◌++◌, ℕ, List, Bool, true, false, Some, Result, Ok, Err, refl, sym, subst, arith}
+use Rattle.std.proofs.Common.{◌≡◌, ◌≤◌, ℕ, Bool, true, false, Some, Result, Ok, Err, refl, subst, arith}
 use Rattle.mdoc_outside.specs.Faults.{HasCause, Rose}
 use Rattle.doc_response.specs.Response.{Document}
 use Rattle.key_device.specs.Gave.{Counts, CountsFailed, Gave, any_failed}
 use Rattle.key_device.specs.Plan.{Follows}
 use Rattle.key_device.specs.Recording.{inner, talk}
 use Rattle.key_device.specs.declared.ask.Ask.{Ask}
-use Rattle.key_device.specs.declared.exchange.Exchange.{Exchange}
 use Rattle.key_device.specs.declared.recorder.Recorder.{Recorder}
 use Rattle.key_device.specs.declared.told.Told.{Told}
 use Rattle.reader_checks.specs.declared.judge_fault.JudgeFault.{JudgeFault}

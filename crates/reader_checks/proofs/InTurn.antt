@@ -1,5 +1,5 @@
 -- Items of a list in turn, as an iterator over it goes.
-use Rattle.std.proofs.Common.{◌≡◌, ℕ, zero, suc, ◌+◌, ◌<◌, List, [], ◌∷◌, ◌++◌, length, take, drop, get_or, refl, ap, sym, arith}
+use Rattle.std.proofs.Common.{◌≡◌, ℕ, zero, suc, ◌<◌, List, [], ◌∷◌, length, take, drop, get_or, refl, ap, arith}
 
 -- the first of those that are left is at its place
 pub record IsNext {A : Type 0} (xs : List A) (i : ℕ) (x : A) (rest : List A) : Type 0 where

@@ -1,4 +1,4 @@
-use Rattle.std.proofs.Common.{◌≡◌, ◌∷◌, ◌++◌, [], List, length, take, drop, Some, Ok, Err, refl, sym, ◌∙◌, subst, add-one, length-append, arith}
+use Rattle.std.proofs.Common.{◌≡◌, ◌∷◌, ◌++◌, [], List, length, Some, Ok, refl, ◌∙◌, subst, add-one, length-append}
 use Rattle.doc_response.specs.ResponseDocs.{document_seen, documents_left}
 use Rattle.doc_response.specs.Response.{Document}
 use Rattle.document_checks.specs.Views.{setting_seen}
