@@ -1,5 +1,5 @@
 -- How the talk of a run follows the checks of copies one behind the other.
-use Rattle.std.proofs.Common.{◌≡◌, ◌+◌, ◌<◌, ℕ, zero, suc, List, [], ◌∷◌, ◌++◌, length, take, get_or, Option, Some, None, Result, Ok, Err, refl, sym, ap, subst, ◌∙◌, add-one, arith}
+use Rattle.std.proofs.Common.{◌≡◌, ◌+◌, ◌<◌, ℕ, zero, suc, List, [], ◌∷◌, ◌++◌, length, take, get_or, Option, Some, None, Result, Ok, Err, refl, sym, ap, subst, add-one, arith}
 use Rattle.std.specs.Prelude.{IfSome, replicate, slice_get}
 use Rattle.key_device.proofs.PlanLemmas.{cut_short, ended, then_more, unasked}
 use Rattle.key_device.proofs.PlanStepLemmas.{each_cut, each_more, each_stopped, turned_came, turned_cut}

@@ -1,5 +1,5 @@
 -- What is found of a document, by what its copies come to.
-use Rattle.std.proofs.Common.{◌≡◌, List, Option, Some, None, Result, Ok, Err, refl, sym, subst}
+use Rattle.std.proofs.Common.{◌≡◌, List, Some, Result, Ok, Err, subst}
 use Rattle.std.specs.Prelude.{IfOk, OnErr}
 use Rattle.doc_request.specs.Known.{came_to}
 use Rattle.doc_store.specs.Store.{Document}
@@ -10,7 +10,6 @@ use Rattle.key_device.specs.PlanSteps.{turned}
 use Rattle.key_device.specs.declared.device_fault.DeviceFault.{DeviceFault}
 use Rattle.key_device.specs.declared.device_fault.DeviceFault.TheVariants.{Failed, Memory}
 use Rattle.key_device.specs.declared.exchange.Exchange.{Exchange}
-use Rattle.mdoc_outside.specs.Faults.{HasCause}
 use Rattle.package_model.specs.Checked.{Failure, package_verdict}
 use Rattle.package_model.specs.declared.package_verdict.PackageVerdict.{PackageVerdict}
 

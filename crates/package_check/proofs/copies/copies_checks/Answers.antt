@@ -1,4 +1,4 @@
-use Rattle.std.proofs.Common.{◌≡◌, ◌∙◌, length, refl, arith}
+use Rattle.std.proofs.Common.{◌∙◌, length, refl, arith}
 use Rattle.doc_store.specs.Document.{document_of}
 use Rattle.doc_store.specs.StoredCopy.{copy_of}
 use Rattle.key_device.proofs.GaveLemmas.{gave_none, gave_then}

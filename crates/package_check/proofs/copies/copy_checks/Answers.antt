@@ -1,4 +1,3 @@
-use Rattle.std.proofs.Common.{List, Result}
 use Rattle.doc_store.specs.StoredCopy.{copy_of}
 use Rattle.document_checks.specs.Views.{issued_seen}
 use Rattle.package_check.specs.Ending.{came_to}

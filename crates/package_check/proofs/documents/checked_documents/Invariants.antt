@@ -1,4 +1,4 @@
-use Rattle.std.proofs.Common.{◌≡◌, length, take, Some, Ok}
+use Rattle.std.proofs.Common.{◌≡◌, take, Some, Ok}
 use Rattle.doc_store.specs.StoreView.{documents_in}
 use Rattle.key_device.specs.Gave.{Gave}
 use Rattle.key_device.specs.Plan.{Follows}
