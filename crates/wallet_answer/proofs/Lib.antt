@@ -1,0 +1,5 @@
+pub mod Counts
+pub mod Exits
+pub mod Nested
+pub mod PlaceLemmas
+pub mod Sound

@@ -1,0 +1,4 @@
+pub mod AnswerView
+pub mod Authenticated
+pub mod Nesting
+pub mod Places
