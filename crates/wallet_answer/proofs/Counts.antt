@@ -1,5 +1,5 @@
 -- A plan for each of a list comes to as many outcomes.
-use Rattle.std.proofs.Common.{◌≡◌, ℕ, suc, List, [], ◌∷◌, length, map, Some, Result, Ok, Err, refl, sym, ap, ◌∙◌, subst}
+use Rattle.std.proofs.Common.{◌≡◌, ℕ, suc, List, [], ◌∷◌, length, map, Some, Result, Ok, refl, sym, ap, ◌∙◌, subst}
 use Rattle.std.proofs.lemmas.List.{length-map}
 use Rattle.key_device.specs.Plan.{Plan, Done, Then, Other, Draw, Follows, Walks}
 use Rattle.key_device.specs.PlanSteps.{◌>>=◌, each}

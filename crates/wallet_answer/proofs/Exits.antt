@@ -1,11 +1,10 @@
 -- How the exits of an answer follow the definition.
 use Rattle.std.proofs.Common.{◌≡◌, ◌+◌, ◌<◌, ℕ, ℤ, List, [], ◌∷◌, ◌++◌, length, map, take, get_or, Option, Some, None, Result, Ok, Err, refl, sym, ap, ◌∙◌, subst, arith}
 use Rattle.std.specs.Prelude.{IfOk}
-use Rattle.std.proofs.lemmas.List.{length-map, length-take-le, map_more, take_more}
+use Rattle.std.proofs.lemmas.List.{length-map, length-take-le, map_more}
 use Rattle.mdoc_outside.specs.declared.memory.Memory.{Memory}
 use Rattle.cbor_view.specs.Parts.{Part, cbor}
 use Rattle.cbor_view.specs.declared.cbor_fault.CborFault.{CborFault}
-use Rattle.cert_view.specs.declared.root.Root.{Root}
 use Rattle.doc_request.specs.Asked.{Asked, Document, Documents, NoRequest, NotCbor, asked, asked_in, asked_of, request}
 use Rattle.doc_request.specs.Known.{known}
 use Rattle.doc_request.specs.Views.{document_seen}
@@ -13,8 +12,8 @@ use Rattle.doc_request.specs.declared.doc_ask.DocAsk.{DocAsk}
 use Rattle.doc_request.specs.declared.request_fault.RequestFault.{RequestFault}
 use Rattle.doc_response.specs.Draft as draft
 use Rattle.doc_response.specs.declared.device_auth.DeviceAuth.{DeviceAuth}
-use Rattle.key_device.specs.Plan.{Plan, Done, Follows, bind}
-use Rattle.key_device.specs.PlanSteps.{◌>>=◌, each, turned, unless_fault}
+use Rattle.key_device.specs.Plan.{Plan, Done, Follows}
+use Rattle.key_device.specs.PlanSteps.{◌>>=◌, each, turned}
 use Rattle.key_device.specs.declared.device_fault.DeviceFault.{DeviceFault}
 use Rattle.key_device.specs.declared.exchange.Exchange.{Exchange}
 use Rattle.key_device.proofs.PlanLemmas.{cut_short, ended, halted, then_more, unasked}
@@ -22,7 +21,7 @@ use Rattle.key_device.proofs.PlanStepLemmas.{turned_came, turned_cut}
 use Rattle.session_seal.specs.Wallet.{WalletSession}
 use Rattle.wallet_choice.specs.ChoiceView.{choice_seen}
 use Rattle.wallet_choice.specs.declared.choice.Choice as made_choice
-use Rattle.wallet_model.specs.Answer.{Answer, answer, answer_asked, answer_request, answer_selections, answer_to_readers, answer_with, authenticated, document_with, known_readers, places_of, response_with, without_items}
+use Rattle.wallet_model.specs.Answer.{Answer, answer, answer_asked, answer_request, answer_selections, answer_to_readers, answer_with, authenticated, document_with, known_readers, response_with, without_items}
 use Rattle.wallet_model.specs.Released.{Choice, Selection, choices, types_of_nothing}
 use Rattle.wallet_model.specs.Setup.{Setup}
 use Rattle.wallet_model.specs.declared.released_at.ReleasedAt.{ReleasedAt}

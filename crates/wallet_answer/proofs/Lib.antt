@@ -1,5 +1,4 @@
 pub mod Counts
 pub mod Exits
 pub mod Nested
-pub mod PlaceLemmas
 pub mod Sound

@@ -1,5 +1,5 @@
 -- How deep an item is nested that was read.
-use Rattle.std.proofs.Common.{◌≡◌, ◌≤◌, ℕ, List, [], ◌∷◌, Option, true, Result, Ok, Err, IsOk, refl, sym, ap, subst, ◌∙◌}
+use Rattle.std.proofs.Common.{◌≡◌, ◌≤◌, ℕ, List, [], ◌∷◌, Option, true, Result, Ok, IsOk, refl, sym, ap, subst, ◌∙◌}
 use Rattle.std.specs.List.{AllByRecursion}
 use Rattle.cbor_view.specs.Reading.{reads, tree_of, tree_or_null}
 use Rattle.cbor_view.specs.Tree.{Tree, levels}

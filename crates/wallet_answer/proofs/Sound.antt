@@ -1,6 +1,6 @@
 -- What is chosen can be answered: each of its items is an issuer-signed item, and no element is missing twice.
-use Rattle.std.proofs.Common.{◌≡◌, ℕ, ◌+◌, ◌<◌, suc, zero, List, [], ◌∷◌, length, map, take, get_or, Bool, true, false, cond, Option, Some, None, Result, Ok, Err, IsOk, refl, sym, ap, ◌∙◌, subst, arith}
-use Rattle.std.specs.Prelude.{◌&&◌, ◌||◌, IfSome, filter, find, is_none, is_some, not, option_map}
+use Rattle.std.proofs.Common.{◌≡◌, ℕ, ◌<◌, suc, zero, List, [], ◌∷◌, length, map, take, get_or, Bool, true, false, cond, Option, Some, None, Result, Ok, Err, IsOk, refl, subst, arith}
+use Rattle.std.specs.Prelude.{◌&&◌, ◌||◌, IfSome, filter, find, is_some, not, option_map}
 use Rattle.std.specs.List.{AllByRecursion, cons_option, list_any}
 use Rattle.std.specs.Str.{bytes_eq}
 use Rattle.mdoc_outside.specs.OptionSteps.{◌>>=◌}
@@ -16,7 +16,7 @@ use Rattle.doc_store.specs.Item.{if_item, item}
 use Rattle.doc_store.specs.Store.{Copy}
 use Rattle.issuer_items.specs.Item as items
 use Rattle.issuer_items.specs.declared.item_fault.ItemFault.{ItemFault}
-use Rattle.wallet_model.specs.Released.{Choice, ReleasedItem, Selection, ShownCopy, choice, choice_of, choice_with, choices, is_refused, item_for, item_of, name_of, named, refused, released, selection, selections, shown_copy, wish_for, wishes_of}
+use Rattle.wallet_model.specs.Released.{Choice, ReleasedItem, ShownCopy, choice, choice_of, choice_with, choices, is_refused, item_of, name_of, named, refused, released, selections, shown_copy, wish_for, wishes_of}
 use Rattle.wallet_model.specs.Setup.{Setup}
 use Rattle.wallet_response.specs.Documents.{AreFresh, IsIssued}
 

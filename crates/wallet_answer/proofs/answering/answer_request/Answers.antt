@@ -1,4 +1,4 @@
-use Rattle.std.proofs.Common.{◌≡◌, ◌∙◌, List, Some, None, Ok, Err, ap, arith, length, map, rules, subst, sym, true, w64, to_z, of_z, to_z-of_z}
+use Rattle.std.proofs.Common.{◌≡◌, ◌∙◌, List, Some, None, Ok, Err, ap, length, map, rules, subst, sym, true, w64, to_z, of_z, to_z-of_z}
 use Rattle.std.specs.List.{AllByRecursion}
 use Rattle.doc_request.specs.Asked.{Document}
 use Rattle.doc_request.specs.Draft.{are_distinct}

@@ -1,4 +1,4 @@
-use Rattle.std.proofs.Common.{◌≡◌, ℕ, ◌<◌, ◌+◌, ◌∙◌, ◌++◌, [], ◌∷◌, List, Some, Ok, length, take, arith, subst, sym, ap}
+use Rattle.std.proofs.Common.{ℕ, ◌<◌, ◌+◌, ◌∙◌, [], ◌∷◌, List, Some, Ok, length, take, arith, subst, sym, ap}
 use Rattle.std.proofs.lemmas.List.{get_or_default, length-append}
 use Rattle.doc_response.specs.Draft.{Document}
 use Rattle.key_device.specs.Plan.{Follows}
