@@ -86,10 +86,6 @@ parted (Then ask next) f (e ∷ es) b walk =
 parted (Other ask next) f es b walk = absurd walk
 parted (Draw next) f es b walk = absurd walk
 
-one_of : (one other : Bool) → (one || other) ≡ true → (one ≡ true) ⊎ (other ≡ true)
-one_of true other is = inl refl
-one_of false other is = inr is
-
 failed_in : (front back : List Exchange) → any_failed (front ++ back) ≡ true → (any_failed front ≡ true) ⊎ (any_failed back ≡ true)
 failed_in [] back failed = inr failed
 failed_in (e ∷ front) back failed = by_first (is_failed e.told) failed (failed_in front back)
