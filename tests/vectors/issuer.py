@@ -4,10 +4,7 @@ from dataclasses import dataclass
 from hashlib import sha256
 
 import cbor
-
-
-def in_eight(number):
-    return number.to_bytes(8, "big")
+import toy
 
 
 @dataclass
@@ -16,16 +13,10 @@ class ToyDevice:
     owner: int
 
     def point(self, key):
-        return b"".join(
-            sha256(name + in_eight(self.seed) + in_eight(self.owner) + in_eight(key)).digest()
-            for name in (b"mdoc-toy-x", b"mdoc-toy-y")
-        )
+        return toy.point(self.owner, key, self.seed)
 
     def signature(self, key, message):
-        return b"".join(
-            sha256(name + in_eight(self.seed) + self.point(key) + message).digest()
-            for name in (b"mdoc-toy-r", b"mdoc-toy-s")
-        )
+        return toy.signature(self.point(key), message, self.seed)
 
 
 @dataclass
@@ -41,49 +32,13 @@ class Spec:
     elements: list[tuple[str, str, bytes]]
 
 
-# ---- certificates (RFC 5280; X.690)
-
-
-def der(tag, *parts):
-    body = b"".join(parts)
-    size = len(body)
-    if size >= 0x80:
-        digits = size.to_bytes((size.bit_length() + 7) // 8, "big")
-        return bytes([tag, 0x80 + len(digits)]) + digits + body
-    return bytes([tag, size]) + body
-
-
-def integer(digits):
-    body = digits.lstrip(b"\0")
-    return der(0x02, (b"\0" if not body or body[0] >= 0x80 else b"") + body)
-
-
-def name(text):
-    return der(0x30, der(0x31, der(0x30, bytes.fromhex("0603550403"), der(0x0C, text.encode()))))
-
-
-def time(text):
-    digits = text.translate({ord(sign): None for sign in "-T:"})
-    return der(0x17, digits[2:].encode()) if int(text[:4]) < 2050 else der(0x18, digits.encode())
+# ---- certificates (RFC 5280)
 
 
 def certificate(spec, device, serial, subject, key, issuer_key, signer):
-    algorithm = bytes.fromhex("300a06082a8648ce3d040302")
-    kind = bytes.fromhex("301306072a8648ce3d020106082a8648ce3d030107")
-    usage = der(0x30, bytes.fromhex("0603551d25"), der(0x04, der(0x30, bytes.fromhex("060728818c5d050102"))))
-    message = der(
-        0x30,
-        bytes.fromhex("a003020102"),
-        integer(bytes([serial])),
-        algorithm,
-        name("issuer"),
-        der(0x30, time(spec.begins), time(spec.until)),
-        name(subject),
-        der(0x30, kind, der(0x03, b"\0\4", device.point(key))),
-        der(0xA3, der(0x30, usage)) if signer else b"",
-    )
-    pair = device.signature(issuer_key, message)
-    return der(0x30, message, algorithm, der(0x03, b"\0", der(0x30, integer(pair[:32]), integer(pair[32:]))))
+    return toy.signed_certificate(
+        serial, "issuer", subject, spec.begins, spec.until, device.point(key),
+        lambda message: device.signature(issuer_key, message), signer)
 
 
 def new_signer(spec, device, root_key):
