@@ -1,5 +1,5 @@
 -- Runs over stores that agree print the same lines.
-use Rattle.std.proofs.Common.{◌≡◌, ℕ, true, List, [], ◌∷◌, Option, Some, None, Result, Ok, Err, refl, sym, ap, subst, ◌∙◌}
+use Rattle.std.proofs.Common.{◌≡◌, ℕ, ℤ, true, List, [], ◌∷◌, Option, Some, None, Result, Ok, Err, refl, sym, ap, subst, ◌∙◌}
 use Rattle.std.specs.Prelude.{codes, unwrap_or}
 use Rattle.doc_store.specs.Agreement.{Agree, FilesAgree}
 use Rattle.doc_store.specs.Store.{Store, store}
@@ -13,14 +13,15 @@ use Rattle.mdoc_program.specs.Core.{core}
 use Rattle.mdoc_program.specs.Draft.{draft_files, draft_line, draft_outcome}
 use Rattle.mdoc_program.specs.Issue.{issue_files}
 use Rattle.mdoc_program.specs.Order.{Order, is_in_form, needed_file, row, value_of}
-use Rattle.mdoc_program.specs.Outcome.{Answer, Failed, FileName, Found, Outcome, after_reads, files_named, if_opened}
+use Rattle.mdoc_program.specs.Outcome.{Answer, Failed, FileName, Found, Outcome, after_reads, file_content, files_named, if_opened, needed_file_name}
 use Rattle.mdoc_program.specs.Printed.{core_line}
 use Rattle.mdoc_program.specs.Released.{released_places}
 use Rattle.mdoc_program.specs.declared.command.Command.{Command}
-use Rattle.mdoc_program.specs.declared.command.Command.TheVariants.{Draft, Issue}
+use Rattle.mdoc_program.specs.declared.command.Command.TheVariants.{Draft, Import, Issue}
 use Rattle.mdoc_program.specs.declared.role.Role.TheVariants as roles
 use Rattle.mdoc_program.specs.declared.status.Status.{Status}
 use Rattle.mdoc_program.proofs.AgreeLemmas.{core_same}
+use Rattle.mdoc_program.proofs.ImportAlike.{imports_for}
 use Rattle.mdoc_program.proofs.OrderLemmas.{draft_files_named, given, issue_file, no_issue_file}
 use Rattle.mdoc_program.proofs.OrderRun.{in_form}
 
@@ -36,7 +37,7 @@ reads-alike one other [] answers work other_work alike = alike []
 reads-alike one other (file ∷ files) [] work other_work alike = λ agree. refl
 reads-alike one other (file ∷ files) (Failed ∷ answers) work other_work alike = λ agree. refl
 reads-alike one other (file ∷ files) ((Found found) ∷ answers) work other_work alike =
-    elim (content_of file.role found) as (λ r.
+    elim (file_content file found) as (λ r.
     PrintsAlike one other (if_opened r (λ content. after_reads files answers (λ contents. work (content ∷ contents))))
     (if_opened r (λ content. after_reads files answers (λ contents. other_work (content ∷ contents))))) [
       | Ok content ↦ reads-alike one other files answers (λ contents. work (content ∷ contents)) (λ contents. other_work (content ∷ contents)) (λ contents. alike (content ∷ contents))
@@ -66,7 +67,7 @@ draft-alike one other ((OfWishes asked) ∷ ((OfRules rules) ∷ [])) agree =
 draft-alike one other contents agree = refl
 
 others-stay : (wishes rules : List ℕ) (answers : List Answer) (other : List ℕ) →
-    with_store (record { role = roles.Wishes; name = wishes } ∷ (record { role = roles.Rules; name = rules } ∷ [])) answers other ≡ answers
+    with_store (needed_file_name roles.Wishes wishes ∷ (needed_file_name roles.Rules rules ∷ [])) answers other ≡ answers
 others-stay wishes rules [] other = refl
 others-stay wishes rules (first ∷ []) other = refl
 others-stay wishes rules (first ∷ (second ∷ answers)) other = refl
@@ -83,7 +84,7 @@ draft-agreeing store_name wishes rules [] one other found first second agree = a
 draft-agreeing store_name wishes rules (Failed ∷ answers) one other found first second agree = absurd cc
 draft-agreeing store_name wishes rules ((Found None) ∷ answers) one other found first second agree = absurd cc
 draft-agreeing store_name wishes rules ((Found (Some bytes)) ∷ answers) one other found first second agree =
-    let files : List FileName = record { role = roles.Wishes; name = wishes } ∷ (record { role = roles.Rules; name = rules } ∷ []) in
+    let files : List FileName = needed_file_name roles.Wishes wishes ∷ (needed_file_name roles.Rules rules ∷ []) in
     let after : Content → List Answer → Outcome = λ content found_after. after_reads files found_after (λ contents. draft_outcome (content ∷ contents)) in
     let same : bytes ≡ one = cc in
     let read : content_of roles.Store (Some bytes) ≡ Ok (OfStore (store_file one)) = ap (λ (b : List ℕ). content_of roles.Store (Some b)) same ∙ first in
@@ -100,8 +101,8 @@ draft-agreeing store_name wishes rules ((Found (Some bytes)) ∷ answers) one ot
 -- over all orders
 abbrev AgreesFor : Order → Type 0
 AgreesFor o =
-    (told : Talks) (answers : List Answer) (one other : List ℕ) → store_found (files_named o) answers ≡ Some one → IsStoreFile one → IsStoreFile other →
-    FilesAgree one other (outcome o told answers).released → (outcome o told (with_store (files_named o) answers other)).lines ≡ (outcome o told answers).lines
+    (clock : ℤ) (told : Talks) (answers : List Answer) (one other : List ℕ) → store_found (files_named o) answers ≡ Some one → IsStoreFile one → IsStoreFile other →
+    FilesAgree one other (outcome o clock told answers).released → (outcome o clock told (with_store (files_named o) answers other)).lines ≡ (outcome o clock told answers).lines
 
 draft-for : (words : List (List ℕ)) (store_name wishes rules : Option (List ℕ)) → is_in_form (row Draft) words ≡ true →
     value_of (codes "--store") words ≡ store_name → value_of (codes "--wishes") words ≡ wishes → value_of (codes "--rules") words ≡ rules →
@@ -115,7 +116,7 @@ draft-for words (Some store_name) (Some wishes) None form store_is wishes_is rul
 draft-for words (Some store_name) (Some wishes) (Some rules) form store_is wishes_is rules_is =
     let files : files_named (record { command = Draft; words = words }) ≡ draft_files store_name wishes rules =
     draft_files_named words store_name wishes rules (sym store_is) (sym wishes_is) (sym rules_is) in
-    λ told answers one other found first second agree.
+    λ clock told answers one other found first second agree.
     ap (λ (l : List FileName). lines_with l answers other) files
     ∙ draft-agreeing store_name wishes rules answers one other (ap (λ (l : List FileName). store_found l answers) (sym files) ∙ found) first second
     (subst (λ (l : List FileName). FilesAgree one other (after_reads l answers draft_outcome).released) files agree)
@@ -130,13 +131,17 @@ no-file-store : (answers : List Answer) (one : List ℕ) → store_found [] answ
 no-file-store answers one found = cc
 
 issue-for : (words : List (List ℕ)) (spec : Option (List ℕ)) → value_of (codes "--spec") words ≡ spec → AgreesFor (record { command = Issue; words = words })
-issue-for words None is = λ told answers one other found first second agree. absurd (no-file-store answers one (ap (λ (l : List FileName). store_found l answers) (sym (no_issue_file words is)) ∙ found))
-issue-for words (Some spec) is = λ told answers one other found first second agree. absurd (no-store spec answers one (ap (λ (l : List FileName). store_found l answers) (sym (issue_file words spec is)) ∙ found))
+issue-for words None is = λ clock told answers one other found first second agree. absurd (no-file-store answers one (ap (λ (l : List FileName). store_found l answers) (sym (no_issue_file words is)) ∙ found))
+issue-for words (Some spec) is = λ clock told answers one other found first second agree. absurd (no-store spec answers one (ap (λ (l : List FileName). store_found l answers) (sym (issue_file words spec is)) ∙ found))
 
-agrees-for : (command : Command) (words : List (List ℕ)) → is_in_form (row command) words ≡ true → AgreesFor (record { command = command; words = words })
-agrees-for Issue words form = issue-for words (value_of (codes "--spec") words) refl
-agrees-for Draft words form =
+agrees-for : (command : Command) (words : List (List ℕ)) → is_in_form (row command) words ≡ true → (command ≡ Import → ⊥) → AgreesFor (record { command = command; words = words })
+agrees-for Import words form other = absurd (other refl)
+agrees-for Issue words form other = issue-for words (value_of (codes "--spec") words) refl
+agrees-for Draft words form other =
     draft-for words (value_of (codes "--store") words) (value_of (codes "--wishes") words) (value_of (codes "--rules") words) form refl refl refl
 
 pub agreeing : Agreeing
-agreeing words o is = agrees-for o.command o.words (in_form words o (sym is))
+agreeing = (
+  λ words o is other. agrees-for o.command o.words (in_form words o (sym is)) other,
+  λ words o is import. imports_for o.command o.words (in_form words o (sym is)) import,
+)

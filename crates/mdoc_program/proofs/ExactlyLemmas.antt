@@ -1,5 +1,5 @@
 -- Where each status comes.
-use Rattle.std.proofs.Common.{◌≡◌, ℕ, true, false, cond, List, [], ◌∷◌, ◌++◌, map, Option, Some, None, Result, Ok, Err, inl, inr, refl, ap, subst, ◌⊎◌, ◌∙◌}
+use Rattle.std.proofs.Common.{◌≡◌, ℕ, ℤ, true, false, cond, Bool, List, [], ◌∷◌, ◌++◌, map, Option, Some, None, Result, Ok, Err, inl, inr, refl, ap, subst, ◌⊎◌, ◌∙◌}
 use Rattle.std.specs.Prelude.{length, nat_le, option_map, ◌↔◌}
 use Rattle.doc_store.specs.Faults.{store_fault}
 use Rattle.doc_store.specs.declared.first_fault.Fault.{Fault}
@@ -9,13 +9,17 @@ use Rattle.mdoc_outside.specs.ResultSteps.{◌>>=◌}
 use Rattle.mdoc_outside.specs.declared.limit_name.LimitName.TheVariants.{FileBytes}
 use Rattle.mdoc_outside.specs.declared.sink_call.SinkCall.{SinkCall}
 use Rattle.mdoc_outside.specs.declared.sink_call.SinkCall.TheVariants.{Put}
+use Rattle.cert_view.specs.RootLine.{Listed}
+use Rattle.cert_view.specs.Roots.{roots_of}
+use Rattle.cert_view.specs.declared.roots_fault.RootsFault.{RootsFault}
+use Rattle.cert_view.specs.declared.roots_fault.RootsFault.TheVariants as roots_faults
 use Rattle.consent.specs.Rules.{rules_of}
 use Rattle.mdoc_program.specs.Asking.{Talks}
 use Rattle.mdoc_program.specs.Commands.{outcome, work_of}
-use Rattle.mdoc_program.specs.Content.{Content, StoreFile, check_status, form, content_of, or_bad_line, or_spec_fault, or_status, spec_status, store_file, without_fault}
+use Rattle.mdoc_program.specs.Content.{Content, OfPackage, OfStore, StoreFile, check_status, form, content_of, or_bad_line, or_roots_fault, or_spec_fault, or_status, spec_status, store_file, without_fault}
 use Rattle.mdoc_program.specs.Exactly.{AtFirst, CabinetExactly, DoneOnlyOpened, DonePrintsAll, FormExactly, IsAbsent, IsRefused, LimitExactly, MissingExactly}
 use Rattle.mdoc_program.specs.Order.{Order}
-use Rattle.mdoc_program.specs.Outcome.{Answer, Failed, FileName, Found, Outcome, after_reads, files_named, if_opened}
+use Rattle.mdoc_program.specs.Outcome.{Answer, Failed, FileName, Found, Outcome, after_reads, content_if_absent, file_content, files_named, if_opened}
 use Rattle.mdoc_program.specs.Run.{AreOpened, AsksAfter, End, FileFailed, LineFailed, Stop, Wanting, if_asked, put_calls, status_at}
 use Rattle.issuing.specs.SpecFile.{spec_of}
 use Rattle.issuing.specs.declared.spec_check.SpecCheck.{SpecCheck}
@@ -37,7 +41,7 @@ use Rattle.mdoc_program.proofs.CommandLemmas.{IsEnd, work_ends}
 
 -- the answer to the read of a file ends the run with this status
 abbrev Ends : Status → FileName → Answer → Type 0
-Ends status file (Found found) = content_of file.role found ≡ Err status
+Ends status file (Found found) = file_content file found ≡ Err status
 Ends status file Failed = statuses.Cabinet ≡ status
 
 module _ (status : Status) (P : FileName → Answer → Type 0) (to : (file : FileName) (answer : Answer) → Ends status file answer → P file answer)
@@ -48,7 +52,7 @@ module _ (status : Status) (P : FileName → Answer → Type 0) (to : (file : Fi
   only (file ∷ files) [] work never is = absurd (no_memory is)
   only (file ∷ files) (Failed ∷ answers) work never is = inl (to file Failed is)
   only (file ∷ files) ((Found found) ∷ answers) work never is =
-      elim (content_of file.role found) as (λ r. content_of file.role found ≡ r →
+      elim (file_content file found) as (λ r. file_content file found ≡ r →
       (if_opened r (λ content. after_reads files answers (λ contents. work (content ∷ contents)))).status ≡ status → AtFirst P (file ∷ files) (Found found ∷ answers)) [
         | Ok content ↦ λ gives e. inr ((content, gives), only files answers (λ contents. work (content ∷ contents)) (λ contents. never (content ∷ contents)) e)
         | Err other ↦ λ gives e. inl (to file (Found found) (gives ∙ ap Err e))
@@ -65,10 +69,10 @@ module _ (status : Status) (P : FileName → Answer → Type 0) (to : (file : Fi
       ap (λ (r : Result Content Status). (if_opened r (λ content. after_reads files answers (λ contents. work (content ∷ contents)))).status) later.0.1
       ∙ there files answers (λ contents. work (later.0.0 ∷ contents)) later.1
 
-  exactly : (o : Order) (told : Talks) (answers : List Answer) → (IsEnd o.command status → ⊥) → ((outcome o told answers).status ≡ status) ↔ AtFirst P (files_named o) answers
-  exactly o told answers no_end = (
-    only (files_named o) answers (work_of o.command o.words told) (λ contents is. no_end (subst (IsEnd o.command) is (work_ends o.command o.words told contents))),
-    there (files_named o) answers (work_of o.command o.words told),
+  exactly : (o : Order) (clock : ℤ) (told : Talks) (answers : List Answer) → (IsEnd o.command status → ⊥) → ((outcome o clock told answers).status ≡ status) ↔ AtFirst P (files_named o) answers
+  exactly o clock told answers no_end = (
+    only (files_named o) answers (work_of o.command o.words clock told) (λ contents is. no_end (subst (IsEnd o.command) is (work_ends o.command o.words clock told contents))),
+    there (files_named o) answers (work_of o.command o.words clock told),
   )
 
 -- ---- what is told of a file that is there: its form, or a limit
@@ -80,10 +84,10 @@ IsOfForm (Err (statuses.Limit limit number)) = Unit {0}
 IsOfForm (Err statuses.Memory) = Unit {0}
 IsOfForm (Err status) = ⊥
 
-store-form : (found : Option Fault) (file : StoreFile) → IsOfForm (without_fault found file)
-store-form None file = tt
-store-form (Some found) file = of_check found.at found.check where
-  of_check : (at : ℕ) (check : StoreCheck) → IsOfForm (Err (check_status at check))
+store-form : (role : Role) (content : StoreFile → Content) (found : Option Fault) (file : StoreFile) → IsOfForm (without_fault role content found file)
+store-form role content None file = tt
+store-form role content (Some found) file = of_check found.at found.check where
+  of_check : (at : ℕ) (check : StoreCheck) → IsOfForm (Err (check_status role at check))
   of_check at (stores.Cbor kind) = tt
   of_check at (stores.Field key) = tt
   of_check at stores.Version = tt
@@ -112,8 +116,16 @@ spec-form (Err (spec_faults.Form check number)) = of_check check where
   of_check (specs.Limit limit passed) = tt
 spec-form (Err spec_faults.Memory) = tt
 
+roots-form : (read : Result (List Listed) RootsFault) → IsOfForm (or_roots_fault read)
+roots-form (Ok listed) = tt
+roots-form (Err (roots_faults.Line number)) = tt
+roots-form (Err (roots_faults.TooMany number)) = tt
+roots-form (Err roots_faults.Memory) = tt
+
 of-form : (role : Role) (bytes : List ℕ) → IsOfForm (form role bytes)
-of-form roles.Store bytes = store-form (store_fault bytes) (store_file bytes)
+of-form roles.Store bytes = store-form roles.Store OfStore (store_fault bytes) (store_file bytes)
+of-form roles.Package bytes = store-form roles.Package OfPackage (store_fault bytes) (store_file bytes)
+of-form roles.Roots bytes = roots-form (roots_of bytes)
 of-form roles.Wishes bytes = lines-form roles.Wishes _ (wishes_of bytes)
 of-form roles.Rules bytes = rules-form roles.Rules _ (rules_of bytes)
 of-form roles.Spec bytes = spec-form (spec_of bytes)
@@ -130,17 +142,20 @@ told-of_file role bytes status is = subst IsOfForm is (of-file role bytes)
 -- ---- the laws
 
 to-absent : (role : Role) (file : FileName) (answer : Answer) → Ends (statuses.Missing role) file answer → IsAbsent role file answer
-to-absent role file (Found None) ends = (cc, refl)
+to-absent role file (Found None) ends = go file.needed refl ends where
+  go : (needed : Bool) → file.needed ≡ needed → content_if_absent needed file.role ≡ Err (statuses.Missing role) → IsAbsent role file (Found None)
+  go true is e = (cc, is, refl)
+  go false is e = absurd cc
 to-absent role file (Found (Some bytes)) ends = absurd (told-of_file file.role bytes (statuses.Missing role) ends)
 to-absent role file Failed ends = absurd cc
 
 from-absent : (role : Role) (file : FileName) (answer : Answer) → IsAbsent role file answer → Ends (statuses.Missing role) file answer
-from-absent role file (Found None) absent = ap (λ (r : Role). Err (statuses.Missing r)) absent.0
-from-absent role file (Found (Some bytes)) absent = let e = absent.1 in absurd cc
-from-absent role file Failed absent = let e = absent.1 in absurd cc
+from-absent role file (Found None) absent = rw absent.1 (ap (λ (r : Role). Err (statuses.Missing r)) absent.0)
+from-absent role file (Found (Some bytes)) absent = let e = absent.2 in absurd cc
+from-absent role file Failed absent = let e = absent.2 in absurd cc
 
 pub missing_exactly : MissingExactly
-missing_exactly o told answers role = exactly (statuses.Missing role) (IsAbsent role) (to-absent role) (from-absent role) (λ e. cc) o told answers (λ h. h)
+missing_exactly o clock told answers role = exactly (statuses.Missing role) (IsAbsent role) (to-absent role) (from-absent role) (λ e. cc) o clock told answers (λ h. h)
 
 to-refused : (status : Status) → (statuses.Cabinet ≡ status → ⊥) → (file : FileName) (answer : Answer) → Ends status file answer → IsRefused status file answer
 to-refused status other file (Found found) ends = ends
@@ -151,8 +166,8 @@ from-refused status file (Found found) refused = refused
 from-refused status file Failed refused = absurd refused
 
 pub form_exactly : FormExactly
-form_exactly o told answers role check at =
-    exactly (statuses.Form role check at) (IsRefused (statuses.Form role check at)) (to-refused _ (λ e. cc)) (from-refused _) (λ e. cc) o told answers (λ h. h)
+form_exactly o clock told answers role check at =
+    exactly (statuses.Form role check at) (IsRefused (statuses.Form role check at)) (to-refused _ (λ e. cc)) (from-refused _) (λ e. cc) o clock told answers (λ h. h)
 
 -- a limit that a file or the work passes
 module _ (limit : LimitName) (number : ℕ) where
@@ -165,14 +180,14 @@ module _ (limit : LimitName) (number : ℕ) where
   to-limit (file ∷ files) [] work is = absurd cc
   to-limit (file ∷ files) (Failed ∷ answers) work is = absurd cc
   to-limit (file ∷ files) ((Found found) ∷ answers) work is =
-      elim (content_of file.role found) as (λ r. content_of file.role found ≡ r →
+      elim (file_content file found) as (λ r. file_content file found ≡ r →
       (if_opened r (λ content. after_reads files answers (λ contents. work (content ∷ contents)))).status ≡ statuses.Limit limit number →
       AtFirst (IsRefused (statuses.Limit limit number)) (file ∷ files) (Found found ∷ answers)
       ⊎ if_asked r (λ content. AtWork files answers (λ contents. work (content ∷ contents))) ⊥) [
         | Ok content ↦ λ gives e. later content gives (to-limit files answers (λ contents. work (content ∷ contents)) e)
         | Err other ↦ λ gives e. inl (inl (gives ∙ ap Err e))
       ] refl is where
-        later : (content : Content) → content_of file.role found ≡ Ok content →
+        later : (content : Content) → file_content file found ≡ Ok content →
             AtFirst (IsRefused (statuses.Limit limit number)) files answers ⊎ AtWork files answers (λ contents. work (content ∷ contents)) →
             AtFirst (IsRefused (statuses.Limit limit number)) (file ∷ files) (Found found ∷ answers) ⊎ AtWork files answers (λ contents. work (content ∷ contents))
         later content gives (inl first) = inl (inr ((content, gives), first))
@@ -183,7 +198,7 @@ module _ (limit : LimitName) (number : ℕ) where
   at-work (file ∷ files) [] work at = absurd at
   at-work (file ∷ files) (Failed ∷ answers) work at = absurd at
   at-work (file ∷ files) ((Found found) ∷ answers) work at =
-      elim (content_of file.role found) as (λ r. if_asked r (λ content. AtWork files answers (λ contents. work (content ∷ contents))) ⊥ →
+      elim (file_content file found) as (λ r. if_asked r (λ content. AtWork files answers (λ contents. work (content ∷ contents))) ⊥ →
       (if_opened r (λ content. after_reads files answers (λ contents. work (content ∷ contents)))).status ≡ statuses.Limit limit number) [
         | Ok content ↦ λ later. at-work files answers (λ contents. work (content ∷ contents)) later
         | Err other ↦ λ later. absurd later
@@ -196,11 +211,14 @@ module _ (limit : LimitName) (number : ℕ) where
   from-limit files answers work (inr at) = at-work files answers work at
 
 pub limit_exactly : LimitExactly
-limit_exactly o told answers limit number =
-    (to-limit limit number (files_named o) answers (work_of o.command o.words told), from-limit limit number (files_named o) answers (work_of o.command o.words told))
+limit_exactly o clock told answers limit number =
+    (to-limit limit number (files_named o) answers (work_of o.command o.words clock told), from-limit limit number (files_named o) answers (work_of o.command o.words clock told))
 
 to-failed : (file : FileName) (answer : Answer) → Ends statuses.Cabinet file answer → answer ≡ Failed
-to-failed file (Found None) ends = absurd cc
+to-failed file (Found None) ends = go file.needed ends where
+  go : (needed : Bool) → content_if_absent needed file.role ≡ Err statuses.Cabinet → Found None ≡ Failed
+  go true e = absurd cc
+  go false e = absurd cc
 to-failed file (Found (Some bytes)) ends = absurd (told-of_file file.role bytes statuses.Cabinet ends)
 to-failed file Failed ends = refl
 
@@ -209,22 +227,30 @@ from-failed file (Found found) is = absurd cc
 from-failed file Failed is = refl
 
 pub cabinet_exactly : CabinetExactly
-cabinet_exactly o told answers = exactly statuses.Cabinet (λ file answer. answer ≡ Failed) to-failed from-failed (λ e. cc) o told answers (λ h. h)
+cabinet_exactly o clock told answers = exactly statuses.Cabinet (λ file answer. answer ≡ Failed) to-failed from-failed (λ e. cc) o clock told answers (λ h. h)
+
+-- a file that isn't opened doesn't end a run with `Done`
+absent-not-done : (needed : Bool) (role : Role) (status : Status) → content_if_absent needed role ≡ Err status → status ≡ statuses.Done → ⊥
+absent-not-done true role status gives is = cc
+absent-not-done false role status gives is = cc
+
+not-done : (file : FileName) (found : Option (List ℕ)) (status : Status) → file_content file found ≡ Err status → status ≡ statuses.Done → ⊥
+not-done file None status gives is = absent-not-done file.needed file.role status gives is
+not-done file (Some bytes) status gives is = subst (λ (s : Status). IsOfForm (Err s)) is (told-of_file file.role bytes status gives)
 
 done-opened : (files : List FileName) (answers : List Answer) (work : List Content → Outcome) → (after_reads files answers work).status ≡ statuses.Done → AreOpened files answers
 done-opened [] answers work is = tt
 done-opened (file ∷ files) [] work is = absurd cc
 done-opened (file ∷ files) (Failed ∷ answers) work is = absurd cc
-done-opened (file ∷ files) ((Found None) ∷ answers) work is = absurd cc
-done-opened (file ∷ files) ((Found (Some bytes)) ∷ answers) work is =
-    elim (content_of file.role (Some bytes)) as (λ r. content_of file.role (Some bytes) ≡ r →
-    (if_opened r (λ content. after_reads files answers (λ contents. work (content ∷ contents)))).status ≡ statuses.Done → AreOpened (file ∷ files) (Found (Some bytes) ∷ answers)) [
+done-opened (file ∷ files) ((Found found) ∷ answers) work is =
+    elim (file_content file found) as (λ r. file_content file found ≡ r →
+    (if_opened r (λ content. after_reads files answers (λ contents. work (content ∷ contents)))).status ≡ statuses.Done → AreOpened (file ∷ files) (Found found ∷ answers)) [
       | Ok content ↦ λ gives e. ((content, gives), done-opened files answers (λ contents. work (content ∷ contents)) e)
-      | Err status ↦ λ gives e. absurd (subst (λ (s : Status). IsOfForm (Err s)) e (told-of_file file.role bytes status gives))
+      | Err status ↦ λ gives e. absurd (not-done file found status gives e)
     ] refl is
 
 pub done_only_opened : DoneOnlyOpened
-done_only_opened o told answers is = done-opened (files_named o) answers (work_of o.command o.words told) is
+done_only_opened o clock told answers is = done-opened (files_named o) answers (work_of o.command o.words clock told) is
 
 done-prints : (stop : Stop) (outcome : Outcome) (told now : Option (List SinkCall)) → statuses.Done ≡ status_at stop outcome →
     now ≡ option_map (λ (calls : List SinkCall). calls ++ put_calls stop outcome) told → now ≡ option_map (λ (calls : List SinkCall). calls ++ map Put outcome.lines) told
@@ -234,4 +260,4 @@ done-prints (LineFailed lines line) outcome told now is printed = absurd cc
 done-prints (Wanting files lines) outcome told now is printed = absurd cc
 
 pub done_prints_all : DonePrintsAll
-done_prints_all o before now from to runs = done-prints runs.run.stop (outcome o runs.told runs.run.answers) before.sink.told now.sink.told runs.run.answer runs.run.printed
+done_prints_all o clock before now from to runs = done-prints runs.run.stop (outcome o clock runs.told runs.run.answers) before.sink.told now.sink.told runs.run.answer runs.run.printed

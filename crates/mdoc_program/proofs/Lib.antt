@@ -5,11 +5,14 @@ pub mod CoreWritten
 pub mod ExactLemmas
 pub mod ExactlyLemmas
 pub mod FileFaults
+pub mod ImportAlike
+pub mod ImportLemmas
 pub mod IssueLemmas
 pub mod NumberLemmas
 pub mod OrderLemmas
 pub mod ReleasedLemmas
 pub mod RequestLemmas
+pub mod RootLemmas
 pub mod RunLemmas
 pub mod StepLemmas
 pub mod CommandLemmas

@@ -1,5 +1,5 @@
 -- From the steps of a command to the clauses of the top call.
-use Rattle.std.proofs.Common.{◌≡◌, ℕ, true, false, List, [], ◌∷◌, Option, Some, None, Result, inl, inr, refl, sym, subst}
+use Rattle.std.proofs.Common.{◌≡◌, ℕ, ℤ, true, false, List, [], ◌∷◌, Option, Some, None, Result, inl, inr, refl, sym, subst}
 use Rattle.std.specs.Prelude.{IfSome, IsNone, ◌↔◌}
 use Rattle.mdoc_outside.specs.Faults.{Rose}
 use Rattle.mdoc_outside.specs.OptionSteps.{◌>>=◌, where_true}
@@ -15,7 +15,7 @@ use Rattle.mdoc_program.specs.Run.{AreOpened, Causes, End, FileFailed, IsComplet
 use Rattle.mdoc_program.specs.Steps.{Does, Ends, Opens, OrMemory, Prints, PutEnds, WriteEnds, WritesFiles, Works}
 use Rattle.mdoc_program.specs.World.{World, after_put, after_read, after_write}
 use Rattle.mdoc_program.specs.declared.command.Command.{Command}
-use Rattle.mdoc_program.specs.declared.command.Command.TheVariants.{Draft, Issue}
+use Rattle.mdoc_program.specs.declared.command.Command.TheVariants.{Draft, Import, Issue}
 use Rattle.mdoc_program.specs.declared.status.Status.{Status}
 use Rattle.mdoc_program.specs.declared.status.Status.TheVariants as statuses
 use Rattle.mdoc_program.proofs.CommandLemmas.{IsEnd, wanting, work_ends, works}
@@ -66,6 +66,7 @@ end-complete command (statuses.Form role check at) from to ends asking wallet re
 end-complete command statuses.Sink from to ends asking wallet reader dice = absurd ends
 end-complete command statuses.Device from to ends asking wallet reader dice = absurd (no-device from to asking wallet reader)
 end-complete command statuses.Dice from to ends asking wallet reader dice = absurd (dice asking.dice)
+end-complete command statuses.Verdict from to ends asking wallet reader dice = ends
 end-complete command (statuses.Limit limit number) from to ends asking wallet reader dice = ends
 end-complete command statuses.Memory from to ends asking wallet reader dice = tt
 
@@ -82,32 +83,32 @@ by-stop command (Wanting files lines) outcome status before now from to is ends 
 -- ---- the clauses
 
 -- what a command does with an order
-abbrev pub DoesOrder : Order → Sources → Sources → World → World → Status → Type 0
-DoesOrder o from to before now status = Does (files_named o) (work_of o.command o.words) (asks_of o.command o.words) from to before now status
+abbrev pub DoesOrder : Order → ℤ → Sources → Sources → World → World → Status → Type 0
+DoesOrder o clock from to before now status = Does (files_named o) (work_of o.command o.words clock) (asks_of o.command o.words clock) from to before now status
 
-order-runs : (o : Order) (from to : Sources) (before now : World) (status : Status) → DoesOrder o from to before now status → Runs o before now from to status
-order-runs o from to before now status does =
-    let ran = does_run (files_named o) (work_of o.command o.words) (asks_of o.command o.words) from to before now status (works o.command o.words) (wanting o.command o.words) does in record {
+order-runs : (o : Order) (clock : ℤ) (from to : Sources) (before now : World) (status : Status) → DoesOrder o clock from to before now status → Runs o clock before now from to status
+order-runs o clock from to before now status does =
+    let ran = does_run (files_named o) (work_of o.command o.words clock) (asks_of o.command o.words clock) from to before now status (works o.command o.words clock) (wanting o.command o.words clock) does in record {
       told = ran.told;
       gained = ran.gained;
       run = ran.run;
       asked = ran.asked;
       asking = ran.asking;
       complete = λ all faultless.
-          by-stop o.command ran.run.stop (after_reads (files_named o) ran.run.answers (work_of o.command o.words ran.told)) status before now from to ran.run.answer
-          (opened-ends o.command (files_named o) ran.run.answers (work_of o.command o.words ran.told) (work_ends o.command o.words ran.told) all) ran.run.causes ran.asking faultless;
+          by-stop o.command ran.run.stop (after_reads (files_named o) ran.run.answers (work_of o.command o.words clock ran.told)) status before now from to ran.run.answer
+          (opened-ends o.command (files_named o) ran.run.answers (work_of o.command o.words clock ran.told) (work_ends o.command o.words clock ran.told) all) ran.run.causes ran.asking faultless;
     }
 
-pub runs : (words : List (List ℕ)) (o : Order) (from to : Sources) (before now : World) (status : Status) → Some o ≡ order words →
-    DoesOrder o from to before now status → IfSome (order words) (λ order. Runs order before now from to status)
-runs words o from to before now status is does =
-    subst (λ (found : Option Order). IfSome found (λ order. Runs order before now from to status)) is (order-runs o from to before now status does)
+pub runs : (words : List (List ℕ)) (o : Order) (clock : ℤ) (from to : Sources) (before now : World) (status : Status) → Some o ≡ order words →
+    DoesOrder o clock from to before now status → IfSome (order words) (λ order. Runs order clock before now from to status)
+runs words o clock from to before now status is does =
+    subst (λ (found : Option Order). IfSome found (λ order. Runs order clock before now from to status)) is (order-runs o clock from to before now status does)
 
 -- words that are in form aren't told `Usage`
-pub no_usage : (words : List (List ℕ)) (o : Order) (from to : Sources) (before now : World) (status : Status) → Some o ≡ order words →
-    DoesOrder o from to before now status → (status ≡ statuses.Usage) ↔ IsNone (order words)
-no_usage words o from to before now status is does =
-    let ran = order-runs o from to before now status does in (
+pub no_usage : (words : List (List ℕ)) (o : Order) (clock : ℤ) (from to : Sources) (before now : World) (status : Status) → Some o ≡ order words →
+    DoesOrder o clock from to before now status → (status ≡ statuses.Usage) ↔ IsNone (order words)
+no_usage words o clock from to before now status is does =
+    let ran = order-runs o clock from to before now status does in (
       λ usage. absurd (subst (λ (s : Status). Causes s before.cabinet.faults now.cabinet.faults before.sink.faults now.sink.faults) usage ran.run.causes),
       λ none. let absent : IsNone (Some o) = subst (λ (found : Option Order). IsNone found) (sym is) none in absurd cc,
     )
@@ -140,6 +141,7 @@ ends_asking outcome before now statuses.Device from to device dice same ends =
     absurd (device (writes-last statuses.Device outcome.status (λ line old new e. e) (λ file old new e. e) (λ e. e) outcome.files outcome.lines before now ends))
 ends_asking outcome before now statuses.Dice from to device dice same ends =
     absurd (dice (writes-last statuses.Dice outcome.status (λ line old new e. e) (λ file old new e. e) (λ e. e) outcome.files outcome.lines before now ends))
+ends_asking outcome before now statuses.Verdict from to device dice same ends = same
 ends_asking outcome before now (statuses.Limit limit number) from to device dice same ends = same
 ends_asking outcome before now statuses.Memory from to device dice same ends = same
 
@@ -161,22 +163,27 @@ opens-as (file ∷ files) rest other nothing nothing_else old now status each no
       (λ contents between. each (on.content ∷ contents) between) none on.goes_on;
 })
 
-draft_does : (words : List (List ℕ)) (from : Sources) (before now : World) (status : Status) →
+draft_does : (words : List (List ℕ)) (clock : ℤ) (from : Sources) (before now : World) (status : Status) →
     Opens (files_named (record { command = Draft; words = words })) (λ contents. Ends (draft_outcome contents)) (Unit {0}) before now status →
-    DoesOrder (record { command = Draft; words = words }) from from before now status
-draft_does words from before now status opens =
-    opens-as (files_named (record { command = Draft; words = words })) (λ contents. Ends (draft_outcome contents)) (Works (work_of Draft words) (asks_of Draft words) from from) (Unit {0}) (from ≡ from) before now status
+    DoesOrder (record { command = Draft; words = words }) clock from from before now status
+draft_does words clock from before now status opens =
+    opens-as (files_named (record { command = Draft; words = words })) (λ contents. Ends (draft_outcome contents)) (Works (work_of Draft words clock) (asks_of Draft words clock) from from) (Unit {0}) (from ≡ from) before now status
     (λ contents between ends. (no_talks, gained-nothing from.talks, refl, draft-asking contents between now status from from (same-sources from) ends, ends)) (λ u. refl) opens
 
 -- ---- the arms of the commands
 
-pub draft_arm : (command : Command) (words : List (List ℕ)) (from : Sources) (before now : World) (status : Status) → command ≡ Draft →
+pub draft_arm : (command : Command) (words : List (List ℕ)) (clock : ℤ) (from : Sources) (before now : World) (status : Status) → command ≡ Draft →
     Opens (files_named (record { command = Draft; words = words })) (λ contents. Ends (draft_outcome contents)) (Unit {0}) before now status →
-    DoesOrder (record { command = command; words = words }) from from before now status
-draft_arm command words from before now status is opens =
-    subst (λ (c : Command). DoesOrder (record { command = c; words = words }) from from before now status) (sym is) (draft_does words from before now status opens)
+    DoesOrder (record { command = command; words = words }) clock from from before now status
+draft_arm command words clock from before now status is opens =
+    subst (λ (c : Command). DoesOrder (record { command = c; words = words }) clock from from before now status) (sym is) (draft_does words clock from before now status opens)
 
-pub issue_arm : (command : Command) (words : List (List ℕ)) (from to : Sources) (before now : World) (status : Status) → command ≡ Issue →
-    DoesOrder (record { command = Issue; words = words }) from to before now status → DoesOrder (record { command = command; words = words }) from to before now status
-issue_arm command words from to before now status is does =
-    subst (λ (c : Command). DoesOrder (record { command = c; words = words }) from to before now status) (sym is) does
+pub issue_arm : (command : Command) (words : List (List ℕ)) (clock : ℤ) (from to : Sources) (before now : World) (status : Status) → command ≡ Issue →
+    DoesOrder (record { command = Issue; words = words }) clock from to before now status → DoesOrder (record { command = command; words = words }) clock from to before now status
+issue_arm command words clock from to before now status is does =
+    subst (λ (c : Command). DoesOrder (record { command = c; words = words }) clock from to before now status) (sym is) does
+
+pub import_arm : (command : Command) (words : List (List ℕ)) (clock : ℤ) (from to : Sources) (before now : World) (status : Status) → command ≡ Import →
+    DoesOrder (record { command = Import; words = words }) clock from to before now status → DoesOrder (record { command = command; words = words }) clock from to before now status
+import_arm command words clock from to before now status is does =
+    subst (λ (c : Command). DoesOrder (record { command = c; words = words }) clock from to before now status) (sym is) does

@@ -11,8 +11,8 @@ use Rattle.mdoc_outside.specs.declared.sink_call.SinkCall.{SinkCall}
 use Rattle.mdoc_outside.specs.declared.sink_call.SinkCall.TheVariants.{Put, PutFailed}
 use Rattle.doc_store.specs.Held.{Place}
 use Rattle.mdoc_program.specs.Asking.{AreSame, AskCauses, IsGained, Sources, Talks, no_talks}
-use Rattle.mdoc_program.specs.Content.{Content, content_of}
-use Rattle.mdoc_program.specs.Outcome.{Answer, Found, Failed, FileName, Outcome, after_reads, if_opened, only_status}
+use Rattle.mdoc_program.specs.Content.{Content}
+use Rattle.mdoc_program.specs.Outcome.{Answer, Found, Failed, FileName, Outcome, after_reads, file_content, if_opened, only_status}
 use Rattle.mdoc_program.specs.Run.{AreHeld, AsksAfter, Causes, End, FileFailed, IsFront, IsPlace, IsRun, LineFailed, Stop, Wanting, if_asked, put_calls, read_calls, status_at, unless_refused, write_calls}
 use Rattle.mdoc_program.specs.Steps.{Does, Gives, IsRead, OrMemory, Prints, PutEnds, ReadEnds, WriteEnds, WritesFiles}
 use Rattle.mdoc_program.specs.World.{World, after_put, after_read, after_write, files_with, told_with, world}
@@ -63,6 +63,7 @@ work-causes (statuses.Form role check at) c0 c1 s0 s1 work c s = (c, s)
 work-causes statuses.Sink c0 c1 s0 s1 work c s = absurd cc
 work-causes statuses.Device c0 c1 s0 s1 work c s = (c, s)
 work-causes statuses.Dice c0 c1 s0 s1 work c s = (c, s)
+work-causes statuses.Verdict c0 c1 s0 s1 work c s = (c, s)
 work-causes (statuses.Limit limit number) c0 c1 s0 s1 work c s = (c, s)
 work-causes statuses.Memory c0 c1 s0 s1 work c s = (c, s)
 
@@ -126,6 +127,7 @@ last-is last released before now (statuses.Form role check at) work same is = al
 last-is last released before now statuses.Sink work same is = all-done last released before now statuses.Sink work same is
 last-is last released before now statuses.Device work same is = all-done last released before now statuses.Device work same is
 last-is last released before now statuses.Dice work same is = all-done last released before now statuses.Dice work same is
+last-is last released before now statuses.Verdict work same is = all-done last released before now statuses.Verdict work same is
 last-is last released before now (statuses.Limit limit number) work same is = all-done last released before now (statuses.Limit limit number) work same is
 last-is last released before now statuses.Memory work same is = want_of_memory (of_work last [] [] released) before now same
 
@@ -153,6 +155,7 @@ put-ends line lines last released before now (statuses.Missing role) same ends =
 put-ends line lines last released before now statuses.Cabinet same ends = absurd ends
 put-ends line lines last released before now statuses.Device same ends = absurd ends
 put-ends line lines last released before now statuses.Dice same ends = absurd ends
+put-ends line lines last released before now statuses.Verdict same ends = absurd ends
 put-ends line lines last released before now (statuses.Form role check at) same ends = absurd ends
 put-ends line lines last released before now (statuses.Limit limit number) same ends = absurd ends
 
@@ -246,6 +249,7 @@ write-ends file files lines last released before now (statuses.Missing role) end
 write-ends file files lines last released before now statuses.Sink ends = absurd ends
 write-ends file files lines last released before now statuses.Device ends = absurd ends
 write-ends file files lines last released before now statuses.Dice ends = absurd ends
+write-ends file files lines last released before now statuses.Verdict ends = absurd ends
 write-ends file files lines last released before now (statuses.Form role check at) ends = absurd ends
 write-ends file files lines last released before now (statuses.Limit limit number) ends = absurd ends
 
@@ -360,7 +364,7 @@ none-read (file ∷ files) = refl
 
 -- no file is read after the last answer
 last-read : (file : FileName) (files : List FileName) (found : Option (List ℕ)) → read_calls (file ∷ files) (Found found ∷ []) ≡ Read file.name found ∷ []
-last-read file files found = ap (λ (calls : List CabinetCall). Read file.name found ∷ calls) (either (content_of file.role found)) where
+last-read file files found = ap (λ (calls : List CabinetCall). Read file.name found ∷ calls) (either (file_content file found)) where
   either : (r : Result Content Status) → unless_refused r (read_calls files []) ≡ []
   either (Ok content) = none-read files
   either (Err status) = refl
@@ -436,13 +440,14 @@ read-ends file files work before now (statuses.Form role check at) ends same = r
 read-ends file files work before now statuses.Sink ends same = absurd ends
 read-ends file files work before now statuses.Device ends same = absurd ends
 read-ends file files work before now statuses.Dice ends same = absurd ends
+read-ends file files work before now statuses.Verdict ends same = absurd ends
 read-ends file files work before now (statuses.Limit limit number) ends same = read-refused file files work before now (statuses.Limit limit number) refl ends same
 read-ends file files work before now statuses.Memory (inl unread) same = read-unread file files work before now unread same
 read-ends file files work before now statuses.Memory (inr read) same = read-wanted file files work before now read same
 
 -- a file was opened, and the rest is a run
 read-more : (file : FileName) (files : List FileName) (work : List Content → Outcome) (before now : World) (status : Status) (found : Option (List ℕ)) (content : Content) →
-    IsFound before.cabinet.told file.name found → content_of file.role found ≡ Ok content →
+    IsFound before.cabinet.told file.name found → file_content file found ≡ Ok content →
     IsRun files (λ contents. work (content ∷ contents)) (after_read file.name found before) now status → IsRun (file ∷ files) work before now status
 read-more file files work before now status found content held is rest =
     let rest_work : List Content → Outcome = λ contents. work (content ∷ contents) in
@@ -487,12 +492,13 @@ read-asking file old new (statuses.Form role check at) from ends = same-sources 
 read-asking file old new statuses.Sink from ends = absurd ends
 read-asking file old new statuses.Device from ends = absurd ends
 read-asking file old new statuses.Dice from ends = absurd ends
+read-asking file old new statuses.Verdict from ends = absurd ends
 read-asking file old new (statuses.Limit limit number) from ends = same-sources from
 read-asking file old new statuses.Memory from ends = same-sources from
 
 -- a file that was refused
 refused-asks : (file : FileName) (files : List FileName) (found : Option (List ℕ)) (status : Status) (asks : List Content → Type 0) →
-    content_of file.role found ≡ Err status → AsksAfter (file ∷ files) (Found found ∷ []) asks (no_talks ≡ no_talks)
+    file_content file found ≡ Err status → AsksAfter (file ∷ files) (Found found ∷ []) asks (no_talks ≡ no_talks)
 refused-asks file files found status asks is =
     subst (λ (r : Result Content Status). if_asked r (λ content. AsksAfter files [] (λ contents. asks (content ∷ contents)) (no_talks ≡ no_talks)) (no_talks ≡ no_talks)) (sym is) refl
 
@@ -503,7 +509,7 @@ none-asks (file ∷ files) asks wanting = refl
 wanted-asks : (file : FileName) (files : List FileName) (found : Option (List ℕ)) (asks : List Content → Type 0) → ((contents : List Content) → asks contents) →
     AsksAfter (file ∷ files) (Found found ∷ []) asks (no_talks ≡ no_talks)
 wanted-asks file files found asks wanting =
-    elim (content_of file.role found) as (λ r. if_asked r (λ content. AsksAfter files [] (λ contents. asks (content ∷ contents)) (no_talks ≡ no_talks)) (no_talks ≡ no_talks)) [
+    elim (file_content file found) as (λ r. if_asked r (λ content. AsksAfter files [] (λ contents. asks (content ∷ contents)) (no_talks ≡ no_talks)) (no_talks ≡ no_talks)) [
       | Ok content ↦ none-asks files (λ contents. asks (content ∷ contents)) (λ contents. wanting (content ∷ contents))
       | Err status ↦ refl
     ]
@@ -520,6 +526,7 @@ read-asks file files work asks before now (statuses.Form role check at) ends sam
 read-asks file files work asks before now statuses.Sink ends same wanting = absurd ends
 read-asks file files work asks before now statuses.Device ends same wanting = absurd ends
 read-asks file files work asks before now statuses.Dice ends same wanting = absurd ends
+read-asks file files work asks before now statuses.Verdict ends same wanting = absurd ends
 read-asks file files work asks before now (statuses.Limit limit number) ends same wanting = refused-asks file files ends.found _ (asks (statuses.Limit limit number)) ends.gives
 read-asks file files work asks before now statuses.Memory (inl unread) same wanting = refl
 read-asks file files work asks before now statuses.Memory (inr read) same wanting = wanted-asks file files read.found (asks statuses.Memory) wanting

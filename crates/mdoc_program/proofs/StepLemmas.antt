@@ -8,8 +8,8 @@ use Rattle.mdoc_outside.specs.declared.limit_name.LimitName.TheVariants.{FileByt
 use Rattle.mdoc_outside.specs.declared.sink_call.SinkCall.{SinkCall}
 use Rattle.doc_request.specs.Draft.{IsRequest}
 use Rattle.doc_request.specs.declared.doc_draft.DocDraft.{DocDraft}
-use Rattle.mdoc_program.specs.Content.{Content, OfWishes, form, content_of, or_status}
-use Rattle.mdoc_program.specs.Outcome.{FileName}
+use Rattle.mdoc_program.specs.Content.{Content, OfWishes, form, or_status}
+use Rattle.mdoc_program.specs.Outcome.{FileName, file_content, needed_file_name}
 use Rattle.mdoc_program.specs.Steps.{Gives, ReadsOn}
 use Rattle.mdoc_program.specs.Wishes.{wishes_of}
 use Rattle.mdoc_program.specs.World.{World, world}
@@ -36,8 +36,8 @@ read-request text documents (Ok others) read is =
 read-request text documents (Err fault) read is = absurd cc
 
 -- a wishes file that is opened gives a request
-pub content_is_request : (found : Option (List ℕ)) (documents : List DocDraft) → content_of roles.Wishes found ≡ Ok (OfWishes documents) → IsRequest documents
-content_is_request None documents is = absurd cc
-content_is_request (Some text) documents is =
+pub content_is_request : (name : List ℕ) (found : Option (List ℕ)) (documents : List DocDraft) → file_content (needed_file_name roles.Wishes name) found ≡ Ok (OfWishes documents) → IsRequest documents
+content_is_request name None documents is = absurd cc
+content_is_request name (Some text) documents is =
     elim (nat_le (length text) 16777216) as (λ t. (cond t (Ok text) (Err (Limit FileBytes (length text))) >>= form roles.Wishes) ≡ Ok (OfWishes documents) → IsRequest documents)
     [ true ↦ λ e. read-request text documents (wishes_of text) refl e | false ↦ λ e. absurd cc ] is

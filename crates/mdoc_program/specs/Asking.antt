@@ -40,6 +40,15 @@ sources wallet_faults reader_faults dice_faults wallet reader dice = record {
   dice_faults = dice_faults (dice_of dice);
 }
 
+-- the same of a run that asks the reader's device alone
+abbrev pub reader_sources : {E : Type 0} → List Exchange → List ℕ → ℕ → ℕ → (E → ℕ) → Recorder E → Sources
+reader_sources wallet words wallet_faults dice_faults reader_faults reader = record {
+  talks = record { wallet = wallet; reader = talk reader; words = words };
+  wallet_faults = wallet_faults;
+  reader_faults = reader_faults (inner reader);
+  dice_faults = dice_faults;
+}
+
 -- no count of faults rose
 pub record AreSame (old new : Sources) : Type 0 where
   pub wallet : new.wallet_faults ≡ old.wallet_faults

@@ -1,29 +1,46 @@
 -- The outcome of each command, and what it asks.
-use Rattle.std.specs.Prelude.{◌≡◌, ℕ, List, [], codes, unwrap_or}
+use Rattle.std.specs.Prelude.{◌≡◌, ℕ, ℤ, pos, List, [], Option, Some, None, codes, unwrap_or}
+use Rattle.std.specs.Str.Parse.{digits_value}
 use Rattle.mdoc_program.specs.Asking.{Talks, no_talks}
 use Rattle.mdoc_program.specs.Content.{Content}
 use Rattle.mdoc_program.specs.Draft.{draft_outcome}
+use Rattle.mdoc_program.specs.Import.{import_asks, import_outcome}
 use Rattle.mdoc_program.specs.Issue.{issue_asks, issue_outcome}
 use Rattle.mdoc_program.specs.Order.{Order, value_of}
 use Rattle.mdoc_program.specs.Outcome.{Answer, Outcome, after_reads, files_named}
 use Rattle.mdoc_program.specs.declared.command.Command.{Command}
-use Rattle.mdoc_program.specs.declared.command.Command.TheVariants.{Draft, Issue}
+use Rattle.mdoc_program.specs.declared.command.Command.TheVariants.{Draft, Import, Issue}
 use Rattle.mdoc_program.specs.declared.status.Status.{Status}
 
 -- the value of `--out`, which has to be there
 abbrev pub out_of : List (List ℕ) → List ℕ
 out_of words = unwrap_or (value_of (codes "--out") words) []
 
--- the work of a command with these words, once its files are opened, by what the devices told and the dice dealt
-abbrev pub work_of : Command → List (List ℕ) → Talks → List Content → Outcome
-work_of Draft words told contents = draft_outcome contents
-work_of Issue words told contents = issue_outcome (out_of words) told contents
+-- the value of `--store`, which has to be there
+abbrev pub store_of : List (List ℕ) → List ℕ
+store_of words = unwrap_or (value_of (codes "--store") words) []
+
+-- the value of `--moment`, or else what the clock says, in seconds since 1970
+abbrev pub or_clock : Option (List ℕ) → ℤ → ℤ
+or_clock None clock = clock
+or_clock (Some word) clock = pos (digits_value 10 word)
+
+abbrev pub moment_of : List (List ℕ) → ℤ → ℤ
+moment_of words clock = or_clock (value_of (codes "--moment") words) clock
+
+-- the work of a command with these words, once its files are opened, by what the clock says, the devices told and the dice
+-- dealt
+abbrev pub work_of : Command → List (List ℕ) → ℤ → Talks → List Content → Outcome
+work_of Draft words clock told contents = draft_outcome contents
+work_of Issue words clock told contents = issue_outcome (out_of words) told contents
+work_of Import words clock told contents = import_outcome (store_of words) (moment_of words clock) told contents
 
 -- and what it asks and draws
-abbrev pub asks_of : Command → List (List ℕ) → Talks → Status → List Content → Type 0
-asks_of Draft words told status contents = told ≡ no_talks
-asks_of Issue words told status contents = issue_asks told status contents
+abbrev pub asks_of : Command → List (List ℕ) → ℤ → Talks → Status → List Content → Type 0
+asks_of Draft words clock told status contents = told ≡ no_talks
+asks_of Issue words clock told status contents = issue_asks told status contents
+asks_of Import words clock told status contents = import_asks (moment_of words clock) told status contents
 
--- What an order comes to, by what the cabinet answered to its reads, the devices told and the dice dealt.
-abbrev pub outcome : Order → Talks → List Answer → Outcome
-outcome order told answers = after_reads (files_named order) answers (work_of order.command order.words told)
+-- What an order comes to, by what the clock says, the cabinet answered to its reads, the devices told and the dice dealt.
+abbrev pub outcome : Order → ℤ → Talks → List Answer → Outcome
+outcome order clock told answers = after_reads (files_named order) answers (work_of order.command order.words clock told)

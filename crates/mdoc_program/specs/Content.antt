@@ -1,12 +1,20 @@
 -- What a file gives, by its role: it is there, is not too long, and is in its form; else the status that tells what is wrong.
-use Rattle.std.specs.Prelude.{ℕ, nat_le, List, [], length, Option, Some, None, Result, Ok, Err, if◌then◌else◌, unwrap_or}
+use mathlib.Core.Path.{refl}
+use Rattle.std.specs.Prelude.{ℕ, nat_le, List, [], length, filter_map, Option, Some, None, Result, Ok, Err, IsOk, if◌then◌else◌, unwrap_or}
 use Rattle.mdoc_outside.specs.ResultSteps.{◌>>=◌}
 use Rattle.doc_store.specs.Faults.{store_fault}
 use Rattle.doc_store.specs.Store.{Store, store}
 use Rattle.doc_store.specs.declared.first_fault.Fault.{Fault}
 use Rattle.doc_store.specs.declared.store_check.StoreCheck.{StoreCheck}
 use Rattle.doc_store.specs.declared.store_check.StoreCheck.TheVariants as stores
-use Rattle.mdoc_outside.specs.declared.limit_name.LimitName.TheVariants.{FileBytes}
+use Rattle.mdoc_outside.specs.declared.limit_name.LimitName.TheVariants.{FileBytes, Roots}
+use Rattle.cert_view.specs.Certificate.{Fields, certificate}
+use Rattle.cert_view.specs.RootLine.{Listed}
+use Rattle.cert_view.specs.Roots.{roots_of}
+use Rattle.cert_view.specs.declared.cert_fault.CertFault.{CertFault}
+use Rattle.cert_view.specs.declared.root.Root.{Root}
+use Rattle.cert_view.specs.declared.roots_fault.RootsFault.{RootsFault}
+use Rattle.cert_view.specs.declared.roots_fault.RootsFault.TheVariants as roots_faults
 use Rattle.consent.specs.Rules.{rules_of}
 use Rattle.consent.specs.declared.rule.Rule.{Rule}
 use Rattle.doc_request.specs.declared.doc_draft.DocDraft.{DocDraft}
@@ -39,6 +47,8 @@ pub data Content : Type 0 where
   OfWishes : List DocDraft → Content
   OfRules : List Rule → Content
   OfSpec : SpecFields → Content
+  OfPackage : StoreFile → Content
+  OfRoots : List Root → Content
   -- of a role that no command reads yet
   Unread : Content
 
@@ -63,18 +73,33 @@ abbrev pub or_bad_line : {A : Type 0} → Role → (A → Content) → Result A 
 or_bad_line role content (Ok value) = Ok (content value)
 or_bad_line role content (Err number) = Err (Form role checks.Line number)
 
--- the status of a store file by its first fault: a limit that is exceeded, or the check that fails, and where
-abbrev pub check_status : ℕ → StoreCheck → Status
-check_status at (stores.Limit limit number) = Limit limit number
-check_status at check = Form roles.Store (checks.Store check) at
+-- the status of a store or a package by its first fault: a limit that is exceeded, or the check that fails, and where
+abbrev pub check_status : Role → ℕ → StoreCheck → Status
+check_status role at (stores.Limit limit number) = Limit limit number
+check_status role at check = Form role (checks.Store check) at
 
-abbrev pub fault_status : Fault → Status
-fault_status f = check_status f.at f.check
+abbrev pub fault_status : Role → Fault → Status
+fault_status role f = check_status role f.at f.check
 
 -- A file without a fault spells a store; else its first fault is told.
-abbrev pub without_fault : Option Fault → StoreFile → Result Content Status
-without_fault None file = Ok (OfStore file)
-without_fault (Some f) file = Err (fault_status f)
+abbrev pub without_fault : Role → (StoreFile → Content) → Option Fault → StoreFile → Result Content Status
+without_fault role content None file = Ok (content file)
+without_fault role content (Some f) file = Err (fault_status role f)
+
+-- a listed root, whose bytes are a certificate
+abbrev pub root_with : (name bytes : List ℕ) (read : Result Fields CertFault) → (IsOk read → IsOk (certificate bytes)) → Option Root
+root_with name bytes (Ok fields) holds = Some (record { name = name; bytes = bytes; reads = holds refl })
+root_with name bytes (Err fault) holds = None
+
+abbrev pub root_of : Listed → Option Root
+root_of listed = root_with listed.name listed.bytes (certificate listed.bytes) (λ ok. ok)
+
+-- the trusted roots that a roots file lists, or the status of its first bad line or of the root that is one too many
+abbrev pub or_roots_fault : Result (List Listed) RootsFault → Result Content Status
+or_roots_fault (Ok listed) = Ok (OfRoots (filter_map root_of listed))
+or_roots_fault (Err (roots_faults.Line number)) = Err (Form roles.Roots checks.Line number)
+or_roots_fault (Err (roots_faults.TooMany number)) = Err (Limit Roots number)
+or_roots_fault (Err roots_faults.Memory) = Err Memory
 
 -- what a spec file says, or the status of its first fault: a limit that is exceeded, or the check that fails, and the line
 abbrev pub spec_status : ℕ → SpecCheck → Status
@@ -88,7 +113,9 @@ or_spec_fault (Err spec_faults.Memory) = Err Memory
 
 -- the form of a file
 abbrev pub form : Role → List ℕ → Result Content Status
-form roles.Store bytes = without_fault (store_fault bytes) (store_file bytes)
+form roles.Store bytes = without_fault roles.Store OfStore (store_fault bytes) (store_file bytes)
+form roles.Package bytes = without_fault roles.Package OfPackage (store_fault bytes) (store_file bytes)
+form roles.Roots text = or_roots_fault (roots_of text)
 form roles.Wishes text = or_status roles.Wishes OfWishes (wishes_of text)
 form roles.Rules text = or_bad_line roles.Rules OfRules (rules_of text)
 form roles.Spec text = or_spec_fault (spec_of text)

@@ -5,7 +5,7 @@ use Rattle.consent.specs.declared.rule.Rule.{Rule}
 use Rattle.doc_request.specs.declared.doc_draft.DocDraft.{DocDraft}
 use Rattle.mdoc_program.specs.Content.{Content, OfStore, OfWishes, OfRules, StoreFile}
 use Rattle.mdoc_program.specs.Core.{core}
-use Rattle.mdoc_program.specs.Outcome.{FileName, Outcome, only_status}
+use Rattle.mdoc_program.specs.Outcome.{FileName, Outcome, needed_file_name, only_status}
 use Rattle.mdoc_program.specs.Printed.{core_line}
 use Rattle.mdoc_program.specs.Released.{released_places}
 use Rattle.mdoc_program.specs.declared.role.Role.TheVariants as roles
@@ -14,8 +14,8 @@ use Rattle.mdoc_program.specs.declared.status.Status.TheVariants.{Done, Memory}
 -- its files, by their names
 abbrev pub draft_files : List ℕ → List ℕ → List ℕ → List FileName
 draft_files store wishes rules =
-    record { role = roles.Store; name = store }
-    ∷ (record { role = roles.Wishes; name = wishes } ∷ (record { role = roles.Rules; name = rules } ∷ []))
+    needed_file_name roles.Store store
+    ∷ (needed_file_name roles.Wishes wishes ∷ (needed_file_name roles.Rules rules ∷ []))
 
 -- The line for a store: the core of what the rules release to an unknown reader.
 abbrev pub draft_line : Store → List DocDraft → List Rule → List ℕ

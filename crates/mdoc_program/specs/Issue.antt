@@ -6,19 +6,19 @@ use Rattle.issue_questions.specs.declared.issue_fault.IssueFault.{IssueFault}
 use Rattle.issue_questions.specs.declared.issue_fault.IssueFault.TheVariants as faults
 use Rattle.issuing.specs.declared.spec_fields.SpecFields.{SpecFields}
 use Rattle.key_device.specs.Plan.{Came, End, Fits, Undealt, Wanting, over_all}
+use Rattle.mdoc_print.specs.Printed.{line, name_text}
 use Rattle.package_issue.specs.Package.{issued_package}
 use Rattle.package_issue.specs.declared.issued.Issued.{Issued}
 use Rattle.mdoc_program.specs.Asking.{Talks, no_talks}
 use Rattle.mdoc_program.specs.Content.{Content, OfSpec}
-use Rattle.mdoc_program.specs.Outcome.{FileName, Outcome, only_status}
-use Rattle.mdoc_program.specs.Printed.{line, name_text}
+use Rattle.mdoc_program.specs.Outcome.{FileName, Outcome, needed_file_name, only_status}
 use Rattle.mdoc_program.specs.declared.role.Role.TheVariants as roles
 use Rattle.mdoc_program.specs.declared.status.Status.{Status}
 use Rattle.mdoc_program.specs.declared.status.Status.TheVariants as statuses
 
 -- its file, by its name
 abbrev pub issue_files : List ℕ → List FileName
-issue_files spec = record { role = roles.Spec; name = spec } ∷ []
+issue_files spec = needed_file_name roles.Spec spec ∷ []
 
 -- The certificate of the root, where it was made with the signer.
 abbrev pub root_line : List ℕ → List ℕ

@@ -11,6 +11,7 @@ pub mod Entry
 pub mod Exact
 pub mod Exactly
 pub mod FileFault
+pub mod Import
 pub mod Issue
 pub mod Number
 pub mod OpenDocument

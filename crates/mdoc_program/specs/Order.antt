@@ -6,9 +6,9 @@ use Rattle.std.specs.Str.{bytes_eq}
 use Rattle.mdoc_outside.specs.OptionSteps.{◌>>=◌, where_true}
 use Rattle.mdoc_program.specs.Number.{is_number}
 use Rattle.mdoc_program.specs.declared.command.Command.{Command}
-use Rattle.mdoc_program.specs.declared.command.Command.TheVariants.{Draft, Issue}
+use Rattle.mdoc_program.specs.declared.command.Command.TheVariants.{Draft, Import, Issue}
 use Rattle.mdoc_program.specs.declared.pair_kind.PairKind.{PairKind}
-use Rattle.mdoc_program.specs.declared.pair_kind.PairKind.TheVariants.{File, Number, Text}
+use Rattle.mdoc_program.specs.declared.pair_kind.PairKind.TheVariants.{File, FileOrNone, Number, Text}
 use Rattle.mdoc_program.specs.declared.role.Role.{Role}
 use Rattle.mdoc_program.specs.declared.role.Role.TheVariants as roles
 
@@ -23,6 +23,14 @@ pub record Pair : Type 0 where
 abbrev pub needed_file : List ℕ → Role → Pair
 needed_file name role = record { name = name; kind = File role; needed = true }
 
+-- one that counts as an empty one where it is absent
+abbrev pub file_or_none : List ℕ → Role → Pair
+file_or_none name role = record { name = name; kind = FileOrNone role; needed = true }
+
+-- a number that needn't be there
+abbrev pub number : List ℕ → ℕ → ℕ → Pair
+number name least most = record { name = name; kind = Number least most; needed = false }
+
 abbrev pub needed_text : List ℕ → Pair
 needed_text name = record { name = name; kind = Text; needed = true }
 
@@ -32,11 +40,17 @@ row Draft =
     ∷ (needed_file (codes "--wishes") roles.Wishes
     ∷ (needed_file (codes "--rules") roles.Rules ∷ []))
 row Issue = needed_file (codes "--spec") roles.Spec ∷ (needed_text (codes "--out") ∷ [])
+row Import =
+    needed_file (codes "--package") roles.Package
+    ∷ (needed_file (codes "--roots") roles.Roots
+    ∷ (file_or_none (codes "--store") roles.Store
+    ∷ (number (codes "--moment") 0 253402300799 ∷ [])))
 
 abbrev pub command_of : List ℕ → Option Command
 command_of word =
     if bytes_eq word (codes "draft") then Some Draft
     else if bytes_eq word (codes "issue") then Some Issue
+    else if bytes_eq word (codes "import") then Some Import
     else None
 
 -- ---- the form
@@ -48,6 +62,7 @@ is_value (first ∷ rest) = not (first == 45)
 
 abbrev pub is_of_kind : PairKind → List ℕ → Bool
 is_of_kind (File role) word = is_value word
+is_of_kind (FileOrNone role) word = is_value word
 is_of_kind (Number least most) word = is_number least most word
 is_of_kind Text word = is_value word
 

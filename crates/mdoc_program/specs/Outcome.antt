@@ -1,23 +1,42 @@
 -- What a run comes to, by what it saw of the outside.
-use Rattle.std.specs.Prelude.{ℕ, List, [], ◌∷◌, filter_map, Option, None, option_map, Result, Ok, Err}
+use Rattle.std.specs.Prelude.{ℕ, List, [], ◌∷◌, filter_map, Bool, true, false, Option, Some, None, option_map, Result, Ok, Err}
 use Rattle.doc_store.specs.Held.{Place}
-use Rattle.mdoc_program.specs.Content.{Content, content_of}
+use Rattle.doc_store.specs.declared.laws.TheConstants.{EMPTY_STORE}
+use Rattle.mdoc_program.specs.Content.{Content, OfStore, content_of, store_file}
 use Rattle.mdoc_program.specs.Order.{Order, Pair, row, value_of}
 use Rattle.mdoc_program.specs.declared.pair_kind.PairKind.{PairKind}
-use Rattle.mdoc_program.specs.declared.pair_kind.PairKind.TheVariants.{File}
+use Rattle.mdoc_program.specs.declared.pair_kind.PairKind.TheVariants.{File, FileOrNone}
 use Rattle.mdoc_program.specs.declared.role.Role.{Role}
 use Rattle.mdoc_program.specs.declared.status.Status.{Status}
-use Rattle.mdoc_program.specs.declared.status.Status.TheVariants.{Cabinet, Memory}
+use Rattle.mdoc_program.specs.declared.status.Status.TheVariants.{Cabinet, Memory, Missing}
 
 -- ---- what is read
 
--- A file that an order names, and what it is for.
+-- A file that an order names: what it is for, and whether it has to be there.
 pub record FileName : Type 0 where
   pub role : Role
   pub name : List ℕ
+  pub needed : Bool
+
+abbrev pub needed_file_name : Role → List ℕ → FileName
+needed_file_name role name = record { role = role; name = name; needed = true }
+
+-- one that counts as empty where it is absent
+abbrev pub file_name_or_none : Role → List ℕ → FileName
+file_name_or_none role name = record { role = role; name = name; needed = false }
+
+-- what was found under its name gives
+abbrev pub content_if_absent : Bool → Role → Result Content Status
+content_if_absent true role = Err (Missing role)
+content_if_absent false role = Ok (OfStore (store_file EMPTY_STORE))
+
+abbrev pub file_content : FileName → Option (List ℕ) → Result Content Status
+file_content file None = content_if_absent file.needed file.role
+file_content file (Some bytes) = content_of file.role (Some bytes)
 
 abbrev pub file_of_kind : PairKind → Option (List ℕ) → Option FileName
-file_of_kind (File role) value = option_map (λ (name : List ℕ). record { role = role; name = name }) value
+file_of_kind (File role) value = option_map (needed_file_name role) value
+file_of_kind (FileOrNone role) value = option_map (file_name_or_none role) value
 file_of_kind kind value = None
 
 -- the files of an order, in the order of the table
@@ -55,4 +74,4 @@ after_reads [] answers work = work []
 after_reads (file ∷ files) [] work = only_status Memory
 after_reads (file ∷ files) (Failed ∷ answers) work = only_status Cabinet
 after_reads (file ∷ files) ((Found found) ∷ answers) work =
-    if_opened (content_of file.role found) (λ content. after_reads files answers (λ contents. work (content ∷ contents)))
+    if_opened (file_content file found) (λ content. after_reads files answers (λ contents. work (content ∷ contents)))

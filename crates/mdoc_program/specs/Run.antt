@@ -1,5 +1,5 @@
 -- What a run leaves, by what it saw of the outside: one record, all of whose fields share one list of answers.
-use Rattle.std.specs.Prelude.{◌≡◌, ℕ, List, [], ◌∷◌, ◌++◌, map, Option, option_map, Result, Ok, Err, ◌⊎◌}
+use Rattle.std.specs.Prelude.{◌≡◌, ℕ, ℤ, List, [], ◌∷◌, ◌++◌, map, Option, option_map, Result, Ok, Err, ◌⊎◌}
 use Rattle.mdoc_outside.specs.Cabinet.{CabinetTold, IsFound}
 use Rattle.mdoc_outside.specs.Faults.{Rose}
 use Rattle.mdoc_outside.specs.declared.cabinet_call.CabinetCall.{CabinetCall}
@@ -8,12 +8,12 @@ use Rattle.mdoc_outside.specs.declared.sink_call.SinkCall.{SinkCall}
 use Rattle.mdoc_outside.specs.declared.sink_call.SinkCall.TheVariants.{Put, PutFailed}
 use Rattle.mdoc_program.specs.Asking.{AskCauses, IsGained, Sources, Talks, no_talks}
 use Rattle.mdoc_program.specs.Commands.{asks_of, work_of}
-use Rattle.mdoc_program.specs.Content.{Content, content_of}
+use Rattle.mdoc_program.specs.Content.{Content}
 use Rattle.mdoc_program.specs.Order.{Order}
-use Rattle.mdoc_program.specs.Outcome.{Answer, Found, Failed, FileName, Outcome, after_reads, files_named}
+use Rattle.mdoc_program.specs.Outcome.{Answer, Found, Failed, FileName, Outcome, after_reads, file_content, files_named}
 use Rattle.mdoc_program.specs.World.{World, told_with}
 use Rattle.mdoc_program.specs.declared.command.Command.{Command}
-use Rattle.mdoc_program.specs.declared.command.Command.TheVariants.{Draft, Issue}
+use Rattle.mdoc_program.specs.declared.command.Command.TheVariants.{Draft, Import, Issue}
 use Rattle.mdoc_program.specs.declared.status.Status.{Status}
 use Rattle.mdoc_program.specs.declared.status.Status.TheVariants as statuses
 
@@ -59,7 +59,7 @@ abbrev pub read_calls : List FileName → List Answer → List CabinetCall
 read_calls [] answers = []
 read_calls (file ∷ files) [] = []
 read_calls (file ∷ files) (Failed ∷ answers) = ReadFailed file.name ∷ []
-read_calls (file ∷ files) ((Found found) ∷ answers) = Read file.name found ∷ unless_refused (content_of file.role found) (read_calls files answers)
+read_calls (file ∷ files) ((Found found) ∷ answers) = Read file.name found ∷ unless_refused (file_content file found) (read_calls files answers)
 
 -- The writes: the files of the outcome in order, with a fault a part from the front and the one that failed.
 abbrev pub write : List ℕ × List ℕ → CabinetCall
@@ -122,12 +122,12 @@ AsksAfter [] answers asks nothing = asks []
 AsksAfter (file ∷ files) [] asks nothing = nothing
 AsksAfter (file ∷ files) (Failed ∷ answers) asks nothing = nothing
 AsksAfter (file ∷ files) ((Found found) ∷ answers) asks nothing =
-    if_asked (content_of file.role found) (λ content. AsksAfter files answers (λ contents. asks (content ∷ contents)) nothing) nothing
+    if_asked (file_content file found) (λ content. AsksAfter files answers (λ contents. asks (content ∷ contents)) nothing) nothing
 
 -- each file is there, is not too long, and is in its form
 abbrev pub IsOpened : FileName → Answer → Type 0
 IsOpened file Failed = ⊥
-IsOpened file (Found found) = (content : Content) × (content_of file.role found ≡ Ok content)
+IsOpened file (Found found) = (content : Content) × (file_content file found ≡ Ok content)
 
 abbrev pub AreOpened : List FileName → List Answer → Type 0
 AreOpened [] answers = Unit {0}
@@ -142,25 +142,33 @@ pub record IsFaultless (before now : World) (from to : Sources) : Type 0 where
   pub reader : Rose from.reader_faults to.reader_faults → ⊥
   pub dice : Rose from.dice_faults to.dice_faults → ⊥
 
--- the work was done, or memory was wanting; a package may be too long
+-- the work was done, or memory was wanting; a package or a store may be too long
 abbrev pub MayPass : Command → Type 0
 MayPass Draft = ⊥
 MayPass Issue = Unit {0}
+MayPass Import = Unit {0}
+
+-- a document may be refused
+abbrev pub MayRefuse : Command → Type 0
+MayRefuse Draft = ⊥
+MayRefuse Issue = ⊥
+MayRefuse Import = Unit {0}
 
 abbrev pub IsComplete : Command → Status → Type 0
 IsComplete command statuses.Done = Unit {0}
 IsComplete command statuses.Memory = Unit {0}
+IsComplete command statuses.Verdict = MayRefuse command
 IsComplete command (statuses.Limit limit number) = MayPass command
 IsComplete command status = ⊥
 
 -- What a run does with an order.
-pub record Runs (order : Order) (before now : World) (from to : Sources) (status : Status) : Type 0 where
+pub record Runs (order : Order) (clock : ℤ) (before now : World) (from to : Sources) (status : Status) : Type 0 where
   -- what the devices told and the dice dealt
   pub told : Talks
   pub gained : IsGained from.talks told to.talks
-  pub run : IsRun (files_named order) (work_of order.command order.words told) before now status
+  pub run : IsRun (files_named order) (work_of order.command order.words clock told) before now status
   -- once all files are opened it is the answer to what the command asks; else nothing is asked
-  pub asked : AsksAfter (files_named order) run.answers (asks_of order.command order.words told status) (told ≡ no_talks)
+  pub asked : AsksAfter (files_named order) run.answers (asks_of order.command order.words clock told status) (told ≡ no_talks)
   -- at most one count of faults of the devices and the dice rose
   pub asking : AskCauses status from to
   -- Where all files are opened and no count rose, the work is done, or memory was wanting, or what it makes is too long.

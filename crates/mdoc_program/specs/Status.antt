@@ -17,6 +17,7 @@ status_code (statuses.Form role check at) = 5
 status_code statuses.Sink = 6
 status_code statuses.Device = 8
 status_code statuses.Dice = 9
+status_code statuses.Verdict = 11
 status_code (statuses.Limit limit number) = 12
 status_code statuses.Memory = 13
 
@@ -46,5 +47,6 @@ status_text (statuses.Form role check at) = codes "Form " ++ role_text role ++ c
 status_text statuses.Sink = codes "Sink"
 status_text statuses.Device = codes "Device"
 status_text statuses.Dice = codes "Dice"
+status_text statuses.Verdict = codes "Verdict"
 status_text (statuses.Limit limit number) = codes "Limit " ++ limit_text limit ++ codes " " ++ decimal number
 status_text statuses.Memory = codes "Memory"

@@ -8,8 +8,8 @@ use Rattle.mdoc_outside.specs.declared.cabinet_call.CabinetCall.TheVariants.{Rea
 use Rattle.mdoc_outside.specs.declared.sink_call.SinkCall.{SinkCall}
 use Rattle.mdoc_outside.specs.declared.sink_call.SinkCall.TheVariants.{PutFailed}
 use Rattle.mdoc_program.specs.Asking.{AskCauses, IsGained, Sources, Talks}
-use Rattle.mdoc_program.specs.Content.{Content, form, content_of}
-use Rattle.mdoc_program.specs.Outcome.{FileName, Outcome}
+use Rattle.mdoc_program.specs.Content.{Content, form}
+use Rattle.mdoc_program.specs.Outcome.{FileName, Outcome, file_content}
 use Rattle.mdoc_program.specs.World.{World, after_put, after_read, after_write}
 use Rattle.mdoc_program.specs.declared.role.Role.{Role}
 use Rattle.mdoc_program.specs.declared.status.Status.{Status}
@@ -30,7 +30,7 @@ pub record Gives (file : FileName) (given : Result Content Status) (old new : St
   pub found : Option (List ℕ)
   pub held : IsFound old.told file.name found
   pub read : new ≡ cabinet_after (Read file.name found) old
-  pub gives : content_of file.role found ≡ given
+  pub gives : file_content file found ≡ given
 
 -- a file was read, before memory was wanting
 pub record IsRead (file : FileName) (old new : State CabinetTold) : Type 0 where
@@ -90,7 +90,7 @@ pub record ReadsOn (file : FileName) (rest : Content → World → Type 0) (old 
   pub found : Option (List ℕ)
   pub content : Content
   pub held : IsFound old.cabinet.told file.name found
-  pub opens : content_of file.role found ≡ Ok content
+  pub opens : file_content file found ≡ Ok content
   pub goes_on : rest content (after_read file.name found old)
 
 -- The files are opened one by one, and then comes the rest; where one isn't opened, nothing else was done.

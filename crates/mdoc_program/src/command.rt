@@ -9,6 +9,8 @@ pub enum Command {
     Draft,
     /// Issues the copies that a spec asks for.
     Issue,
+    /// Takes a package into the store.
+    Import,
 }
 
 impl Command {
@@ -19,6 +21,7 @@ impl Command {
         match word {
             "draft" => Some(Command::Draft),
             "issue" => Some(Command::Issue),
+            "import" => Some(Command::Import),
             _ => None,
         }
     }

@@ -1,6 +1,7 @@
 // Files by their form.
 ghost use Rattle.std.specs.Prelude.{◌≡◌};
 ghost use Rattle.mdoc_program.specs.Content.{Content};
+ghost use Rattle.mdoc_program.specs.Outcome.{file_name_or_none, needed_file_name};
 ghost use Rattle.mdoc_program.specs.Steps.{ReadsFile, ReadsForm};
 ghost use Rattle.mdoc_program.specs.declared.role.Role.{Role};
 
@@ -34,7 +35,7 @@ pub(crate) fn read_file<F: Form, C: Cabinet>(
     name: &str,
     cabinet: &mut C,
 ) -> Result<F, Status>
-    ensures { ReadsFile (record { role = F.role; name = name.now }) F.content
+    ensures { ReadsFile (needed_file_name F.role name.now) F.content
         (C.state cabinet.old) (C.state cabinet.new) result }
 {
     let bytes = match cabinet.read(name) {

@@ -1,56 +1,13 @@
 // The lines that `issue` prints.
-ghost use Rattle.std.specs.Prelude.{◌≡◌, ◌++◌, OnOk, IfOk, length};
-ghost use Rattle.std.specs.Fmt.{decimal};
+ghost use Rattle.std.specs.Prelude.{◌≡◌, IfOk};
 ghost use Rattle.issuing.specs.Spec.{fields};
 ghost use Rattle.mdoc_program.specs.Issue.{issue_lines, issued_line, root_line};
-ghost use Rattle.mdoc_program.specs.Printed.{byte_text, is_plain_byte, name_text};
 
 use issuing::Spec;
 use mdoc_outside::{Memory, Octets};
+use mdoc_print::{put_name, put_number};
 use package_issue::Issued;
 use std::alloc::Global;
-
-// Whether a byte of a name is printed as it is.
-fn is_plain_byte(byte: u8) -> bool
-    ensures { result ≡ is_plain_byte byte }
-{
-    (0x21..=0x7e).contains(&byte) && byte != b'%'
-}
-
-// Appends a byte of a name.
-fn put_byte(line: &mut Vec<u8>, alloc: Global, byte: u8) -> Result<(), Memory>
-    ensures { OnOk result (line.new.items ≡ line.old.items ++ byte_text byte) }
-{
-    if is_plain_byte(byte) {
-        line.push(byte)?;
-        return Ok(());
-    }
-    line.push(b'%')?;
-    line.extend_from_slice(hex::encode(alloc, &[byte])?.as_bytes())?;
-    Ok(())
-}
-
-// Appends a name.
-fn put_name(line: &mut Vec<u8>, alloc: Global, name: &[u8]) -> Result<(), Memory>
-    ensures { OnOk result (line.new.items ≡ line.old.items ++ name_text name.now) }
-{
-    if name.is_empty() {
-        line.push(b'%')?;
-    }
-    for byte in name {
-        put_byte(line, alloc, *byte)?;
-    }
-    Ok(())
-}
-
-// Appends a number.
-fn put_number(line: &mut Vec<u8>, alloc: Global, number: u64) -> Result<(), Memory>
-    ensures { OnOk result (line.new.items ≡ line.old.items ++ decimal number) }
-{
-    let text = format!(in alloc; "{number}")?;
-    line.extend_from_slice(text.as_bytes())?;
-    Ok(())
-}
 
 // The line that tells what was issued.
 fn issued_line(alloc: Global, spec: &Spec) -> Result<Octets, Memory>

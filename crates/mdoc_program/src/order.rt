@@ -8,6 +8,9 @@ use crate::pair::Pair;
 use crate::{Command, Role};
 use mdoc_outside::Word;
 
+// The last second of the year 9999, in seconds since 1970.
+const LAST_MOMENT: u64 = 253_402_300_799;
+
 // A command, and the words of its pairs, which are in the form of its row.
 #[derive(Clone, Copy)]
 pub(crate) struct Order<'a> {
@@ -98,6 +101,15 @@ fn is_in_row(command: Command, words: &[Word]) -> bool
             let pairs = [
                 Pair::needed_file("--spec", Role::Spec),
                 Pair::needed_text("--out"),
+            ];
+            is_in_form(&pairs, words)
+        }
+        Command::Import => {
+            let pairs = [
+                Pair::needed_file("--package", Role::Package),
+                Pair::needed_file("--roots", Role::Roots),
+                Pair::file_or_none("--store", Role::Store),
+                Pair::number("--moment", 0, LAST_MOMENT),
             ];
             is_in_form(&pairs, words)
         }

@@ -15,7 +15,7 @@ pub(crate) struct Pair {
 }
 
 impl Pair {
-    ghost use Rattle.mdoc_program.specs.Order.{needed_file, needed_text};
+    ghost use Rattle.mdoc_program.specs.Order.{file_or_none, needed_file, needed_text, number};
     ghost use Rattle.mdoc_program.specs.Row.{pair_seen};
 
     // A file that has to be named.
@@ -26,6 +26,28 @@ impl Pair {
             name,
             kind: PairKind::File(role),
             needed: true,
+        }
+    }
+
+    // A file that has to be named, and counts as an empty one where it is absent.
+    pub(crate) fn file_or_none(name: &'static str, role: Role) -> Pair
+        ensures { pair_seen result ≡ file_or_none name.now role }
+    {
+        Pair {
+            name,
+            kind: PairKind::FileOrNone(role),
+            needed: true,
+        }
+    }
+
+    // A number that needn't be there.
+    pub(crate) fn number(name: &'static str, least: u64, most: u64) -> Pair
+        ensures { pair_seen result ≡ number name.now least most }
+    {
+        Pair {
+            name,
+            kind: PairKind::Number(least, most),
+            needed: false,
         }
     }
 
@@ -95,7 +117,7 @@ impl PairKind {
         ensures { result ≡ is_of_kind self.now word.now }
     {
         match *self {
-            PairKind::File(_) | PairKind::Text => is_value(word),
+            PairKind::File(_) | PairKind::FileOrNone(_) | PairKind::Text => is_value(word),
             PairKind::Number(least, most) => is_number(least, most, word),
         }
     }

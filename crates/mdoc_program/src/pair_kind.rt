@@ -6,6 +6,8 @@ use crate::Role;
 pub enum PairKind {
     /// The name of a file of this role.
     File(Role),
+    /// The name of a file of this role that counts as an empty one where it is absent.
+    FileOrNone(Role),
     /// A number from the first to the second, in decimal digits.
     Number(u64, u64),
     /// A text.

@@ -13,6 +13,7 @@ ghost use Rattle.mdoc_program.specs.Steps.{Does};
 ghost use Rattle.mdoc_program.specs.World.{world};
 
 use crate::draft::draft;
+use crate::import::import;
 use crate::issue::issue;
 use crate::order::{Order, order_of};
 use crate::{Command, Status};
@@ -24,6 +25,7 @@ use std::alloc::Global;
 fn dispatch<C: Cabinet, D: KeyDevice, E: KeyDevice, R: Dice, O: Sink>(
     alloc: Global,
     order: Order<'_>,
+    moment: i64,
     cabinet: &mut C,
     wallet_device: &mut Recorder<D>,
     reader_device: &mut Recorder<E>,
@@ -31,7 +33,7 @@ fn dispatch<C: Cabinet, D: KeyDevice, E: KeyDevice, R: Dice, O: Sink>(
     out: &mut O,
 ) -> Status
     requires { is_in_form (row order.command) order.words.now ≡ true }
-    ensures does { Does (files_named (order_seen order.entry)) (work_of order.entry.command order.entry.words.now) (asks_of order.entry.command order.entry.words.now)
+    ensures does { Does (files_named (order_seen order.entry)) (work_of order.entry.command order.entry.words.now moment) (asks_of order.entry.command order.entry.words.now moment)
         (sources D.faults E.faults R.faults wallet_device.old reader_device.old dice.old) (sources D.faults E.faults R.faults wallet_device.new reader_device.new dice.new)
         (world (C.state cabinet.old) (O.state out.old)) (world (C.state cabinet.new) (O.state out.new)) result }
     ensures wallet { Gave D.gives D.unasked D.faults wallet_device.old wallet_device.new }
@@ -49,12 +51,13 @@ fn dispatch<C: Cabinet, D: KeyDevice, E: KeyDevice, R: Dice, O: Sink>(
             dice,
             out,
         ),
+        Command::Import => import(alloc, order.words, moment, cabinet, reader_device, out),
     }
 }
 
 /// Runs the command that the words give, over the files of the cabinet, and prints to the sink. The devices are those
-/// of a wallet and of a reader. The moment, in seconds since 1970, is for commands that ask for one; it is not looked
-/// at yet.
+/// of a wallet and of a reader. The moment, in seconds since 1970, is for commands that ask for one and aren't given
+/// another one by the words.
 #[tactic(auto, using(crate::proofs::AgreeingLemmas::agreeing))]
 pub fn run<C: Cabinet, D: KeyDevice, E: KeyDevice, R: Dice, O: Sink>(
     alloc: Global,
@@ -74,7 +77,7 @@ pub fn run<C: Cabinet, D: KeyDevice, E: KeyDevice, R: Dice, O: Sink>(
         sources D.faults E.faults R.faults wallet_device.new reader_device.new dice.new ≡ sources D.faults E.faults R.faults wallet_device.old reader_device.old dice.old }
     // Else there are answers of the outside by which status, lines and files are the command's outcome.
     ensures runs { IfSome (order words.now) (λ order.
-        Runs order (world (C.state cabinet.old) (O.state out.old)) (world (C.state cabinet.new) (O.state out.new))
+        Runs order moment (world (C.state cabinet.old) (O.state out.old)) (world (C.state cabinet.new) (O.state out.new))
         (sources D.faults E.faults R.faults wallet_device.old reader_device.old dice.old) (sources D.faults E.faults R.faults wallet_device.new reader_device.new dice.new) result) }
     // The devices told and the dice dealt what they give.
     ensures wallet { Gave D.gives D.unasked D.faults wallet_device.old wallet_device.new }
@@ -83,13 +86,13 @@ pub fn run<C: Cabinet, D: KeyDevice, E: KeyDevice, R: Dice, O: Sink>(
     // The lines of that outcome are those of each store that agrees with the one that was read, up to the released items.
     ensures agreeing { Agreeing }
 {
-    let _ = moment;
     let Some(order) = order_of(words) else {
         return Status::Usage;
     };
     dispatch(
         alloc,
         order,
+        moment,
         cabinet,
         wallet_device,
         reader_device,

@@ -28,6 +28,8 @@ pub enum Status {
     Device,
     /// The dice failed.
     Dice,
+    /// A document is refused.
+    Verdict,
     /// A limit that is passed, with the number that passes it.
     Limit(LimitName, u64),
     /// Want of memory.
@@ -48,6 +50,7 @@ impl Status {
             Status::Sink => 6,
             Status::Device => 8,
             Status::Dice => 9,
+            Status::Verdict => 11,
             Status::Limit(..) => 12,
             Status::Memory => 13,
         }
@@ -67,6 +70,7 @@ impl fmt::Display for Status {
             Status::Sink => write!(f, "Sink"),
             Status::Device => write!(f, "Device"),
             Status::Dice => write!(f, "Dice"),
+            Status::Verdict => write!(f, "Verdict"),
             Status::Limit(name, number) => write!(f, "Limit {} {number}", name.text()),
             Status::Memory => write!(f, "Memory"),
         }

@@ -8,13 +8,13 @@ use doc_store::{Fault, StoreCheck, StoreFault, StoreFile};
 use mdoc_outside::Octets;
 use std::alloc::Global;
 
-// The status of a store file by its first fault.
-fn status_of(fault: Fault) -> Status
-    ensures { result ≡ fault_status fault }
+// The status of a store or a package by its first fault.
+pub(crate) fn status_of(role: Role, fault: Fault) -> Status
+    ensures { result ≡ fault_status role fault }
 {
     match fault.check {
         StoreCheck::Limit(name, number) => Status::Limit(name, number),
-        check => Status::Form(Role::Store, FormCheck::Store(check), fault.at as u64),
+        check => Status::Form(role, FormCheck::Store(check), fault.at as u64),
     }
 }
 
@@ -34,7 +34,7 @@ impl Form for StoreFile {
     fn from_bytes(alloc: Global, bytes: Octets) -> Result<Self, Status> {
         match StoreFile::read(alloc, bytes) {
             Ok(file) => Ok(file),
-            Err(StoreFault::Form(fault)) => Err(status_of(fault)),
+            Err(StoreFault::Form(fault)) => Err(status_of(Role::Store, fault)),
             Err(StoreFault::Memory) => Err(Status::Memory),
         }
     }

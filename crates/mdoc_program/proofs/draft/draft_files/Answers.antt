@@ -4,7 +4,7 @@ use Rattle.mdoc_program.proofs.StepLemmas.{on, content_is_request}
 use Rattle.mdoc_program.proofs.draft.draft_files.Goals as goal
 
 pub line_of-requires : goal.line_of-requires
-line_of-requires g c = content_is_request c.in-Ok-read_file.ensures.found c.in-Ok-read_file.request.documents c.in-Ok-read_file.ensures.gives
+line_of-requires g c = content_is_request c.args.files.wishes.now c.in-Ok-read_file.ensures.found c.in-Ok-read_file.request.documents c.in-Ok-read_file.ensures.gives
 
 pub returns-in_default : goal.returns-in_default
 returns-in_default g c =

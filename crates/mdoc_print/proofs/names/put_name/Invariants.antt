@@ -1,7 +1,7 @@
 use Rattle.std.proofs.Common.{◌≡◌, ◌++◌, take}
 use Rattle.std.specs.Prelude.{flat_map}
-use Rattle.mdoc_program.specs.Printed.{byte_text}
-use Rattle.mdoc_program.proofs.issue_lines.put_name.Given as goal
+use Rattle.mdoc_print.specs.Printed.{byte_text}
+use Rattle.mdoc_print.proofs.names.put_name.Given as goal
 
 -- the bytes so far
 abbrev pub invariant-loop-byte : goal.invariant-loop-byte

@@ -1,0 +1,2 @@
+pub mod PackageLines
+pub mod Printed
