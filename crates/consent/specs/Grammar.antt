@@ -1,18 +1,13 @@
 -- Files of lines: each line is read by its words, and the first line outside the grammar is the bad one.
-use Rattle.std.specs.Prelude.{◌≡◌, ℕ, List, [], ◌∷◌, Option, Result, Ok, Err}
+use Rattle.std.specs.Prelude.{◌≡◌, ℕ, List, Option, Result, Ok, Err}
 use Rattle.mdoc_outside.specs.Lines.{Line, words}
-use Rattle.mdoc_outside.specs.ResultSteps.{◌>>=◌, or_fault}
+use Rattle.mdoc_outside.specs.ResultSteps.{or_fault}
 use Rattle.consent.specs.declared.rule_fault.RuleFault.{RuleFault}
 use Rattle.consent.specs.declared.rule_fault.RuleFault.TheVariants as faults
 
 -- what a line says, or its number where it says nothing
 abbrev pub line_of : {A : Type 0} → (List (List ℕ) → Option A) → Line → Result A ℕ
 line_of meaning line = or_fault line.number (meaning (words line.bytes))
-
--- what each line of a file says, or the number of the first one that says nothing
-abbrev pub each_line : {A : Type 0} → (List (List ℕ) → Option A) → List Line → Result (List A) ℕ
-each_line meaning [] = Ok []
-each_line meaning (line ∷ lines) = line_of meaning line >>= λ first. each_line meaning lines >>= λ others. Ok (first ∷ others)
 
 -- a fault is the line that the definition names; want of memory may come before any answer
 abbrev pub IsLineFault : {A : Type 0} → RuleFault → Result A ℕ → Type 0

@@ -2,7 +2,8 @@
 use Rattle.std.specs.Prelude.{ℕ, List, Bool, false, Option, Some, None, Result}
 use Rattle.std.specs.List.{find}
 use Rattle.mdoc_outside.specs.Lines.{file_lines}
-use Rattle.consent.specs.Grammar.{each_line}
+use Rattle.mdoc_outside.specs.ResultSteps.{each}
+use Rattle.consent.specs.Grammar.{line_of}
 use Rattle.consent.specs.Wish.{Wanted}
 use Rattle.consent.specs.Rule.{is_match, rule_of}
 use Rattle.consent.specs.declared.rule.Rule.{Rule}
@@ -18,4 +19,4 @@ approved rules reader wish = decision (find (is_match reader wish) rules)
 
 -- The rules that a text spells, one a line, else the number of its first bad line.
 abbrev pub rules_of : List ℕ → Result (List Rule) ℕ
-rules_of text = each_line rule_of (file_lines text)
+rules_of text = each (line_of rule_of) (file_lines text)

@@ -15,10 +15,6 @@ use Rattle.doc_request.specs.Asked.{Document, document, documents, document_faul
 use Rattle.doc_request.specs.Checks.{rank, sooner, unless, of_field}
 use Rattle.doc_request.specs.Spaces.{is_count}
 
-pub sooner-none : (a : Option RequestFault) → sooner a None ≡ a
-sooner-none None = refl
-sooner-none (Some f) = refl
-
 le-trans : (a b c : ℕ) → nat_le a b ≡ true → nat_le b c ≡ true → nat_le a c ≡ true
 le-trans a b c one other = grind arith
 

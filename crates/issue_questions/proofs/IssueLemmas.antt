@@ -99,9 +99,6 @@ caused_memory {A} {E} {failed} {memory} differ same = record { later = omega ari
 pub device_memory : {A : Type 0} {before after : ℕ} → after ≡ before → HasCause {T = A} devices.Failed devices.Memory before after (Err devices.Memory)
 device_memory same = caused_memory (λ (is : devices.Failed ≡ devices.Memory). cc) same
 
-pub dice_memory : {A : Type 0} {before after : ℕ} → after ≡ before → HasCause {T = A} dices.Failed dices.Memory before after (Err dices.Memory)
-dice_memory same = caused_memory (λ (is : dices.Failed ≡ dices.Memory). cc) same
-
 -- A part that ended with a fault is the cause of the whole.
 pub holder_failed : {A : Type 0} {h h' i i' d d' : ℕ} (fault : DeviceFault) → i' ≡ i → d' ≡ d
     → HasCause {T = A} devices.Failed devices.Memory h h' (Err fault) → Fails h h' i i' d d' (of_device fault)

@@ -229,9 +229,6 @@ by_other {p = p} {outcome = outcome} one dealt follows = record {
   fits = fits_of_other p follows.gained outcome follows.fits;
 }
 
-nothing_gained : {X : Type 0} (gained : List X) → [] ≡ [] ++ gained → gained ≡ []
-nothing_gained gained same = sym same
-
 -- the dice alone were asked;
 pub by_dice : {A : Type 0} {p : Plan A} {dealt dealt' : List ℕ} {end : End A} (one other : List Exchange)
     → FollowsAll p [] [] dealt [] [] dealt' end → FollowsAll p one other dealt one other dealt' end

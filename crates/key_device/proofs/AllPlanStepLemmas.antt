@@ -92,12 +92,6 @@ pub all_each_stopped : {X Y E : Type 0} (step : X → Plan (Result Y E)) (xs : L
     → FollowsAll (step x) one' other' dealt' one'' other'' dealt'' (Came (Err e)) → FollowsAll (each step xs) one other dealt one'' other'' dealt'' (Came (Err e))
 all_each_stopped step xs i {e = e} x first within is second = each_halted step xs i x (Came (Err e)) (Came (Err e)) refl refl first within is second
 
--- where a word wasn't dealt in one,
-pub all_each_undealt : {X Y E : Type 0} (step : X → Plan (Result Y E)) (xs : List X) (i : ℕ) {one other one' other' one'' other'' : List Exchange} {dealt dealt' dealt'' : List ℕ} {ys : List Y} (x : X)
-    → FollowsAll (each step (take i xs)) one other dealt one' other' dealt' (Came (Ok ys)) → i < length xs → x ≡ get_or xs i x
-    → FollowsAll (step x) one' other' dealt' one'' other'' dealt'' Undealt → FollowsAll (each step xs) one other dealt one'' other'' dealt'' Undealt
-all_each_undealt step xs i x first within is second = each_halted step xs i x Undealt Undealt refl refl first within is second
-
 -- where memory was wanting in one,
 pub all_each_cut : {X Y E : Type 0} (step : X → Plan (Result Y E)) (xs : List X) (i : ℕ) {one other one' other' one'' other'' : List Exchange} {dealt dealt' dealt'' : List ℕ} {ys : List Y} (x : X)
     → FollowsAll (each step (take i xs)) one other dealt one' other' dealt' (Came (Ok ys)) → i < length xs → x ≡ get_or xs i x
@@ -116,9 +110,6 @@ pub all_each_left : {X Y E : Type 0} (step : X → Plan (Result Y E)) (xs : List
     → FollowsAll (each step (take i xs)) one other dealt one' other' dealt' (Came (Ok ys)) → i < length xs → x ≡ get_or xs i x
     → FollowsAll (step x) one' other' dealt' one'' other'' dealt'' (Came (Ok y)) → FollowsAll (each step xs) one other dealt one'' other'' dealt'' Wanting
 all_each_left step xs i x y first within is second = all_each_paused step xs (i + 1) (all_each_more step xs i x y first within is second)
-
--- all of these, for `using(..)` on a function with such a loop
-pub ruleset all_each_exits = (all_each_begun, all_each_more, all_each_stopped, all_each_undealt, all_each_cut, all_each_paused, all_each_left)
 
 again : {Y E : Type 0} (m n : ℕ) (plan : Plan (Result Y E)) {one other one' other' one'' other'' : List Exchange} {dealt dealt' dealt'' : List ℕ} (ys : List Y) (end : End (Result (List Y) E))
     → FollowsAll (times m plan) one other dealt one' other' dealt' (Came (Ok ys)) → FollowsAll (times n plan) one' other' dealt' one'' other'' dealt'' end
@@ -223,12 +214,6 @@ pub all_first_stopped : {X E : Type 0} (says : X → Plan (Result Bool E)) (xs :
 all_first_stopped says xs i {one'' = one''} {other'' = other''} {dealt'' = dealt''} {e = e} x first within is second =
     search_halted says xs i x (Came (Err e)) first within is (all_more _ second (all_ended one'' other'' dealt''))
 
--- where a word wasn't dealt in one,
-pub all_first_undealt : {X E : Type 0} (says : X → Plan (Result Bool E)) (xs : List X) (i : ℕ) {one other one' other' one'' other'' : List Exchange} {dealt dealt' dealt'' : List ℕ} (x : X)
-    → FollowsAll (first_yes says (take i xs)) one other dealt one' other' dealt' (Came (Ok None)) → i < length xs → x ≡ get_or xs i x
-    → FollowsAll (says x) one' other' dealt' one'' other'' dealt'' Undealt → FollowsAll (first_yes says xs) one other dealt one'' other'' dealt'' Undealt
-all_first_undealt says xs i x first within is second = search_halted says xs i x Undealt first within is (all_undealt _ second)
-
 -- where memory was wanting in one,
 pub all_first_cut : {X E : Type 0} (says : X → Plan (Result Bool E)) (xs : List X) (i : ℕ) {one other one' other' one'' other'' : List Exchange} {dealt dealt' dealt'' : List ℕ} (x : X)
     → FollowsAll (first_yes says (take i xs)) one other dealt one' other' dealt' (Came (Ok None)) → i < length xs → x ≡ get_or xs i x
@@ -241,8 +226,6 @@ pub all_first_paused : {X E : Type 0} (says : X → Plan (Result Bool E)) (xs : 
 all_first_paused {X} {E} says xs i {one} {other} {one'} {other'} {dealt} {dealt'} first =
     subst (λ (all : List X). FollowsAll (first_yes says all) one other dealt one' other' dealt' Wanting) (take-append-drop i xs)
     (search_on says (take i xs) (drop i xs) Wanting first (all_unasked refl refl refl))
-
-pub ruleset all_first_exits = (all_first_begun, all_first_no, all_first_found, all_first_stopped, all_first_undealt, all_first_cut, all_first_paused)
 
 steps_on : {S X : Type 0} (step : S → X → Plan S) (state : S) (front back : List X) {one other one' other' one'' other'' : List Exchange} {dealt dealt' dealt'' : List ℕ} {mid : S} (end : End S)
     → FollowsAll (folded step state front) one other dealt one' other' dealt' (Came mid) → FollowsAll (folded step mid back) one' other' dealt' one'' other'' dealt'' end
@@ -271,12 +254,6 @@ steps_halted {S} {X} step state xs i {one} {other} {one'} {other'} {one''} {othe
     subst (λ (all : List X). FollowsAll (folded step state all) one other dealt one'' other'' dealt'' end) (rest_of xs i x within is)
     (steps_on step state (take i xs) (x ∷ drop (i + 1) xs) end first second)
 
--- where a word wasn't dealt in one,
-pub all_folded_undealt : {S X : Type 0} (step : S → X → Plan S) (state : S) (xs : List X) (i : ℕ) {one other one' other' one'' other'' : List Exchange} {dealt dealt' dealt'' : List ℕ} {mid : S} (x : X)
-    → FollowsAll (folded step state (take i xs)) one other dealt one' other' dealt' (Came mid) → i < length xs → x ≡ get_or xs i x
-    → FollowsAll (step mid x) one' other' dealt' one'' other'' dealt'' Undealt → FollowsAll (folded step state xs) one other dealt one'' other'' dealt'' Undealt
-all_folded_undealt step state xs i {mid = mid} x first within is second = steps_halted step state xs i x Undealt first within is (all_undealt _ second)
-
 -- where memory was wanting in one,
 pub all_folded_cut : {S X : Type 0} (step : S → X → Plan S) (state : S) (xs : List X) (i : ℕ) {one other one' other' one'' other'' : List Exchange} {dealt dealt' dealt'' : List ℕ} {mid : S} (x : X)
     → FollowsAll (folded step state (take i xs)) one other dealt one' other' dealt' (Came mid) → i < length xs → x ≡ get_or xs i x
@@ -290,21 +267,12 @@ all_folded_paused {S} {X} step state xs i {one} {other} {one'} {other'} {dealt} 
     subst (λ (all : List X). FollowsAll (folded step state all) one other dealt one' other' dealt' Wanting) (take-append-drop i xs)
     (steps_on step state (take i xs) (drop i xs) Wanting first (all_unasked refl refl refl))
 
-pub ruleset all_folded_exits = (all_folded_begun, all_folded_more, all_folded_undealt, all_folded_cut, all_folded_paused)
-
 -- What a function whose callee's outcome it turns into another one shows: the callee came to one,
 pub all_turned_came : {A B : Type 0} (answer : A → B) {p : Plan A} {one other one' other' : List Exchange} {dealt dealt' : List ℕ} {a : A}
     → FollowsAll p one other dealt one' other' dealt' (Came a) → FollowsAll (turned answer p) one other dealt one' other' dealt' (Came (answer a))
 all_turned_came answer {one' = one'} {other' = other'} {dealt' = dealt'} follows = all_more (λ a. Done (answer a)) follows (all_ended one' other' dealt')
 
--- lacked a word,
-pub all_turned_undealt : {A B : Type 0} (answer : A → B) {p : Plan A} {one other one' other' : List Exchange} {dealt dealt' : List ℕ}
-    → FollowsAll p one other dealt one' other' dealt' Undealt → FollowsAll (turned answer p) one other dealt one' other' dealt' Undealt
-all_turned_undealt answer follows = all_undealt (λ a. Done (answer a)) follows
-
 -- or wanted memory.
 pub all_turned_cut : {A B : Type 0} (answer : A → B) {p : Plan A} {one other one' other' : List Exchange} {dealt dealt' : List ℕ}
     → FollowsAll p one other dealt one' other' dealt' Wanting → FollowsAll (turned answer p) one other dealt one' other' dealt' Wanting
 all_turned_cut answer follows = all_cut (λ a. Done (answer a)) follows
-
-pub ruleset all_turned_exits = (all_turned_came, all_turned_undealt, all_turned_cut)

@@ -4,24 +4,16 @@ use Rattle.std.proofs.lemmas.List.Folds.{list_all-append}
 use Rattle.std.proofs.lemmas.List.Splits.{length-slice_split}
 use Rattle.std.specs.List.{list_all, slice_split}
 use Rattle.mdoc_outside.specs.ResultSteps.{◌>>=◌, or_fault}
+use Rattle.mdoc_outside.proofs.EachStep.{with_front, regroup}
 use Rattle.key_device.specs.Tape.{is_exchange}
 use Rattle.key_device.specs.TapeFile.{exchanges_of, tape_parts}
 use Rattle.key_device.specs.TapeLine.{line_exchange}
 use Rattle.key_device.proofs.TapeAnswers.{words_formed}
 use Rattle.key_device.specs.declared.exchange.Exchange.{Exchange}
 
--- what was read before, in front of what is read
-abbrev pub with_front : List Exchange → Result (List Exchange) ℕ → Result (List Exchange) ℕ
-with_front front read = read >>= λ rest. Ok (front ++ rest)
-
 pub with_front-nil : (read : Result (List Exchange) ℕ) → with_front [] read ≡ read
 with_front-nil (Ok rest) = refl
 with_front-nil (Err n) = refl
-
-regroup : (front : List Exchange) (first : Exchange) (read : Result (List Exchange) ℕ)
-    → with_front front (read >>= λ rest. Ok (first ∷ rest)) ≡ with_front (front ++ first ∷ []) read
-regroup front first (Ok rest) = ap Ok (sym (append_assoc front (first ∷ []) rest))
-regroup front first (Err n) = refl
 
 on_lines : (n : ℕ) (front : List Exchange) (line : List ℕ) (lines : List (List ℕ)) (e : Exchange) → 0 < length lines
     → line_exchange line ≡ Some e

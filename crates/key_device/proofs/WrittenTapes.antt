@@ -4,7 +4,8 @@ use Rattle.std.proofs.lemmas.List.Elements.{All-head, All-tail, All-append}
 use Rattle.std.proofs.lemmas.List.Splits.{slice_split_at}
 use Rattle.std.proofs.lemmas.List.Sums.{AllPass-from_list_all}
 use Rattle.key_device.proofs.SameAsk.{ask_itself}
-use Rattle.key_device.proofs.TapeFileLemmas.{with_front, with_front-nil, read_on}
+use Rattle.key_device.proofs.TapeFileLemmas.{with_front-nil, read_on}
+use Rattle.mdoc_outside.proofs.EachStep.{with_front}
 use Rattle.key_device.proofs.WrittenLines.{is_in_line, line_read, line_whole}
 use Rattle.key_device.specs.TapeFile.{exchanges_of, tape_parts}
 use Rattle.key_device.specs.TapeText.{line_text, tape_text}

@@ -1,4 +1,5 @@
 pub mod DiceLaws
+pub mod EachStep
 pub mod GaveWordsLemmas
 mod LineSteps
 mod Splits

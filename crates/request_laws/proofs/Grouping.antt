@@ -55,10 +55,6 @@ not-outside : (all wishes : Wishes) → AllByRecursion (λ w. has_space w.ns all
 not-outside all [] each = tt
 not-outside all (w ∷ ws) each = (rw each.0 refl, not-outside all ws each.1)
 
-or-false : (b : Bool) → (b || false) ≡ b
-or-false true = refl
-or-false false = refl
-
 -- with one wish more
 outside-more : (before : Wishes) (w x : WishDraft) → outside (before ++ w ∷ []) x ≡ outside before x && not (bytes_eq w.ns x.ns)
 outside-more before w x = rw (any-joined (is_in x.ns) before (w ∷ [])) (cases (has_space x.ns before) (bytes_eq w.ns x.ns)) where

@@ -24,10 +24,6 @@ use Rattle.request_laws.proofs.ItemsRead.{value}
 
 -- ---- the authentications
 
-no-auth : (place : ℕ) (auths : List (List ℕ)) → length auths ≡ 0 → IsAuth (slice_get auths place)
-no-auth place [] none = tt
-no-auth place (auth ∷ auths) none = absurd (omega arith)
-
 auth-at : (place : ℕ) (auths : List (List ℕ)) → AllByRecursion IsAuthentication auths → IsAuth (slice_get auths place)
 auth-at place [] each = tt
 auth-at zero (auth ∷ auths) each = each.0

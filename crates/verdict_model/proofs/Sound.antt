@@ -110,9 +110,6 @@ from_device {A} plan es a walk =
 
 -- ---- what a talk holds
 
-abbrev IsExchange : Ask → Told → Exchange → Type 0
-IsExchange ask told e = (e.ask ≡ ask) × (e.told ≡ told)
-
 in_front : (ask : Ask) (told : Told) (front back : List Exchange) → Holds front ask told → Holds (front ++ back) ask told
 in_front ask told [] back some = absurd some
 in_front ask told (e ∷ front) back (inl is) = inl is

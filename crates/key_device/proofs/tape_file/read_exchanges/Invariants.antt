@@ -3,7 +3,7 @@ use Rattle.std.proofs.Common.{◌≡◌, ◌+◌, ◌≤◌, length, true}
 use Rattle.std.specs.List.{list_all}
 use Rattle.key_device.specs.Tape.{is_exchange}
 use Rattle.key_device.specs.TapeFile.{exchanges_of, tape_parts, tape_of}
-use Rattle.key_device.proofs.TapeFileLemmas.{with_front}
+use Rattle.mdoc_outside.proofs.EachStep.{with_front}
 use Rattle.key_device.proofs.tape_file.read_exchanges.Given as goal
 
 abbrev pub invariant-loop-line : goal.invariant-loop-line
