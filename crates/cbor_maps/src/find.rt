@@ -24,12 +24,12 @@ fn added<'a>(found: Found<'a>, value: View<'a>) -> Found<'a>
 }
 
 /// Notes a pair of the map under each name that its key is.
-fn note<'a>(found: &mut [Found<'a>; 8], names: &[KeyName], key: &str, value: View<'a>)
+fn note<'a>(found: &mut [Found<'a>; 8], names: &[KeyName], key: &[u8], value: View<'a>)
     requires { length names.now ≤ 8 }
     ensures { (i : ℕ) → i < length names.now → found_at found.new i ≡ noted (name_at names.now i) key.now value.entry (found_at found.old i) }
 {
     for (place, name) in names.iter().enumerate() {
-        if key == name.text() {
+        if key == name.text().as_bytes() {
             found[place] = added(found[place], value);
         }
     }
@@ -45,7 +45,7 @@ pub(crate) fn find_all<'a>(map: &View<'a>, names: &[KeyName]) -> [Found<'a>; 8]
         return found;
     };
     for (key, value) in pairs {
-        if let Some(text) = key.text() {
+        if let Some(text) = key.text_bytes() {
             note(&mut found, names, text, value);
         }
     }

@@ -117,6 +117,16 @@ impl<'a> View<'a> {
         }
     }
 
+    /// The UTF-8 bytes of a text string (major type 3).
+    pub fn text_bytes(&self) -> Option<&'a [u8]>
+        ensures { option_map (λ b. b.now) result ≡ text_of (tree self.now) }
+    {
+        match split_head(self.slice) {
+            (Head::Text(_), body) => Some(body),
+            _ => None,
+        }
+    }
+
     /// The truth value (simple values 20 and 21; RFC 8949, section 3.3).
     pub fn boolean(&self) -> Option<bool>
         ensures { result ≡ boolean_of (tree self.now) }

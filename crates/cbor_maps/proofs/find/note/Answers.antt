@@ -9,7 +9,7 @@ use Rattle.cbor_maps.proofs.find.note.Goals as goal
 pub loop-place-preserved : goal.loop-place-preserved
 loop-place-preserved c =
     let so_far : NotedUpTo c.loop-place.place c.args.names.now c.args.key.now c.args.value c.args.found.now c.loop-place.found = record { done = c.loop-place.invariant.done; left = c.loop-place.invariant.left } in
-    let is_name : c.eq.result ≡ bytes_eq c.args.key.now (key_text (name_at c.args.names.now c.loop-place.place)) = c.eq.ensures ∙ ap (bytes_eq c.args.key.now) c.text.ensures in
+    let is_name : c.eq.result ≡ bytes_eq c.args.key.now (key_text (name_at c.args.names.now c.loop-place.place)) = c.eq.ensures ∙ ap (bytes_eq c.args.key.now) (c.as_bytes.ensures.value ∙ c.text.ensures) in
     elim c.if-eq.branch [
       | then-eq w ↦
           let within : c.loop-place.place < length c.loop-place.found = omega arith in
