@@ -33,10 +33,10 @@ abbrev pub noted : KeyName → List ℕ → View → Found → Found
 noted name key value found = if bytes_eq key (key_text name) then added found value else found
 
 -- what was found so far, with the values that are left
-abbrev pub joined : {A : Type 0} → Result (Option A) Doubled → List A → Result (Option A) Doubled
-joined (Ok None) values = only_of values
-joined (Ok (Some x)) values = only_of (x ∷ values)
-joined (Err twice) values = Err twice
+abbrev pub with_values_left : {A : Type 0} → Result (Option A) Doubled → List A → Result (Option A) Doubled
+with_values_left (Ok None) values = only_of values
+with_values_left (Ok (Some x)) values = only_of (x ∷ values)
+with_values_left (Err twice) values = Err twice
 
 abbrev pub values_under : KeyName → List (Part × Part) → List Part
 values_under name entries = values_of tree_in (Words (key_text name)) entries

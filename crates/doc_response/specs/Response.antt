@@ -34,8 +34,8 @@ spread space = map (λ (item : Part). (space.0, item)) space.1
 abbrev pub spread_all : List (List ℕ × List Part) → List (List ℕ × Part)
 spread_all spaces = flat_map spread spaces
 
-abbrev pub joined : List (List (List ℕ × Part)) → List (List ℕ × Part)
-joined errors = flat_map (λ (one : List (List ℕ × Part)). one) errors
+abbrev pub all_errors : List (List (List ℕ × Part)) → List (List ℕ × Part)
+all_errors errors = flat_map (λ (one : List (List ℕ × Part)). one) errors
 
 abbrev pub pair : {A B : Type 0} → A → B → A × B
 pair first second = (first, second)
@@ -115,7 +115,7 @@ abbrev pub documents : Part → Result (List Document) ResponseFault
 documents map = found (optional_field keys.Documents any_in map) >>= if_there keys.Documents items_in [] >>= documents_of
 
 abbrev pub document_errors : Part → Result (List (List ℕ × Part)) ResponseFault
-document_errors map = found (optional_field keys.DocumentErrors any_in map) >>= if_there keys.DocumentErrors document_errors_in [] >>= λ errors. Ok (joined errors)
+document_errors map = found (optional_field keys.DocumentErrors any_in map) >>= if_there keys.DocumentErrors document_errors_in [] >>= λ errors. Ok (all_errors errors)
 
 -- a version is taken that begins with "1."
 abbrev pub is_version : List ℕ → Bool

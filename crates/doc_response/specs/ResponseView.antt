@@ -7,7 +7,7 @@ use Rattle.cbor_view.specs.Pairs.{pairs_left}
 use Rattle.cbor_view.specs.Parts.{Part}
 use Rattle.mdoc_outside.specs.OptionSteps.{each}
 use Rattle.doc_response.specs.ResponseParts.{namespace, error_of, errors_in}
-use Rattle.doc_response.specs.Response.{spread, joined}
+use Rattle.doc_response.specs.Response.{spread, all_errors}
 
 -- the items of an array, and the pairs of a map, that may be missing
 abbrev pub items_or_none : Option Items → List Part
@@ -49,7 +49,7 @@ abbrev pub are_error_maps : List Part → Bool
 are_error_maps maps = is_some (each errors_in maps)
 
 abbrev pub errors_of_all : List Part → List (List ℕ × Part)
-errors_of_all maps = joined (unwrap_or (each errors_in maps) [])
+errors_of_all maps = all_errors (unwrap_or (each errors_in maps) [])
 
 -- a value, or another where there is none
 abbrev pub value_or : {A E : Type 0} → A → Result A E → A

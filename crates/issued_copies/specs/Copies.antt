@@ -5,7 +5,7 @@ use Rattle.cose_msgs.specs.Structures.{signed_structure}
 use Rattle.cose_msgs.specs.Written.{es256, sign1_bytes}
 use Rattle.document_signer.specs.declared.signer.Signer.{Signer}
 use Rattle.doc_store.specs.Store.{Copy}
-use Rattle.issued_items.specs.IssuedItems.{items_of, payload, placed}
+use Rattle.issued_items.specs.IssuedItems.{items_of, payload, raw_items}
 use Rattle.issued_items.specs.declared.issued_item.IssuedItem.{IssuedItem}
 use Rattle.issuing.specs.declared.spec_fields.SpecFields.{SpecFields}
 use Rattle.key_device.specs.Plan.{Plan, Done, of_other}
@@ -26,7 +26,7 @@ finished_copy signer made items object signature = record {
   key = made.key;
   used = false;
   issuer_auth = sign1_bytes (Some signer.certificate) (Some object) signature;
-  items = placed items;
+  items = raw_items items;
 }
 
 -- the copy by its device key, its salts and its signature

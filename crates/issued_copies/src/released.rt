@@ -3,7 +3,7 @@
 ghost use Rattle.std.specs.Prelude.{◌≡◌, IfOk, IsUtf8, map};
 ghost use Rattle.doc_response.specs.AnsweredView.{item_seen};
 ghost use Rattle.issued_copies.specs.Texts.{AreTexts};
-ghost use Rattle.issued_items.specs.IssuedItems.{placed, placed_of};
+ghost use Rattle.issued_items.specs.IssuedItems.{raw_items, placed_of};
 
 use doc_response::ReleasedItem;
 use issued_items::IssuedItem;
@@ -30,7 +30,7 @@ pub(crate) fn released<'a>(
     items: &'a [IssuedItem],
 ) -> Result<Vec<ReleasedItem<'a>>, Memory>
     requires { AreTexts items.now }
-    ensures { IfOk result (λ r. map item_seen r.items ≡ placed items.now) }
+    ensures { IfOk result (λ r. map item_seen r.items ≡ raw_items items.now) }
 {
     let mut released = Vec::new(alloc);
     for item in items {

@@ -15,7 +15,7 @@ use Rattle.mso_digests.proofs.MadeFromItems.{lists-items, covers-items}
 use Rattle.mso_digests.specs.MadeFrom.{AreDigestsOf}
 use Rattle.issued_items.proofs.ElementLemmas.{Checked, checked, name_text, name_short, Read, value_read}
 use Rattle.issued_items.proofs.ItemLengths.{map_length}
-use Rattle.issued_items.specs.IssuedItems.{entries_of, item_of, items_after, items_of, number_in, object_draft, placed}
+use Rattle.issued_items.specs.IssuedItems.{entries_of, item_of, items_after, items_of, number_in, object_draft, raw_items}
 use Rattle.issued_items.specs.MadeCopies.{IsMadeFromItsItems}
 
 number_few : (ns : List ℕ) (xs : List SpecElement) → number_in ns xs ≤ length xs
@@ -42,7 +42,7 @@ writable before e s few is bytes short size =
     }
 
 are_after : (before es : List SpecElement) (salts : List (List ℕ)) → length before + length es ≤ 512 → AreElements es → All (λ (e : SpecElement). AreBytes e.value) es
-    → All (λ (e : SpecElement). length e.value ≤ 262_144) es → All (λ (s : List ℕ). length s ≡ 32) salts → AreDigestsOf (entries_of (items_after before es salts)) (placed (items_after before es salts))
+    → All (λ (e : SpecElement). length e.value ≤ 262_144) es → All (λ (s : List ℕ). length s ≡ 32) salts → AreDigestsOf (entries_of (items_after before es salts)) (raw_items (items_after before es salts))
 are_after before [] salts few each bytes short sizes = tt
 are_after before (e ∷ es) [] few each bytes short sizes = tt
 are_after before (e ∷ es) (s ∷ salts) few each bytes short sizes =
@@ -62,4 +62,4 @@ made fields key salts is bytes sizes =
     let draft = object_draft fields key salts in
     let few : length {A = SpecElement} [] + length fields.elements ≤ 512 = let most = is.elements.few in omega (arith, most) in
     let are = are_after [] fields.elements salts few is.elements.each bytes is.elements.short sizes in
-    record { lists = lists-items draft.digests (placed (items_of fields.elements salts)) are; covers = covers-items draft.digests (placed (items_of fields.elements salts)) are }
+    record { lists = lists-items draft.digests (raw_items (items_of fields.elements salts)) are; covers = covers-items draft.digests (raw_items (items_of fields.elements salts)) are }

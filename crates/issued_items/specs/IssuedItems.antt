@@ -37,8 +37,8 @@ items_of elements salts = items_after [] elements salts
 abbrev pub placed_of : IssuedItem → Placed
 placed_of i = (i.ns, i.raw)
 
-abbrev pub placed : List IssuedItem → List Placed
-placed items = map placed_of items
+abbrev pub raw_items : List IssuedItem → List Placed
+raw_items items = map placed_of items
 
 -- ---- the object
 

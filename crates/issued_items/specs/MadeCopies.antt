@@ -6,7 +6,7 @@ use Rattle.issuing.specs.declared.spec_fields.SpecFields.{SpecFields}
 use Rattle.key_device.specs.declared.point.Point.{Point}
 use Rattle.mso_digests.specs.MadeFrom.{MadeFrom}
 use Rattle.mso_digests.specs.Written.{drafted}
-use Rattle.issued_items.specs.IssuedItems.{items_of, object_draft, placed}
+use Rattle.issued_items.specs.IssuedItems.{items_of, object_draft, raw_items}
 
 -- A law: of a spec whose values are bytes, with a salt of 32 bytes for each element.
 abbrev pub IsMadeFromItsItems : Type 0
@@ -14,4 +14,4 @@ IsMadeFromItsItems =
     (fields : SpecFields) (key : Point) (salts : List (List ℕ))
     → IsSpec fields → All (λ e. AreBytes e.value) fields.elements
     → All (λ s. length s ≡ 32) salts
-    → MadeFrom (drafted (object_draft fields key salts)) (placed (items_of fields.elements salts))
+    → MadeFrom (drafted (object_draft fields key salts)) (raw_items (items_of fields.elements salts))

@@ -16,12 +16,12 @@ use Rattle.doc_response.specs.Answered.{firsts, grouped, of_namespace}
 use Rattle.doc_response.specs.WrittenReads.{regrouped}
 use Rattle.doc_store.specs.Fields as fields
 use Rattle.doc_store.specs.Store.{Copy}
-use Rattle.issued_items.specs.IssuedItems.{placed}
+use Rattle.issued_items.specs.IssuedItems.{raw_items}
 use Rattle.issued_items.specs.declared.issued_item.IssuedItem.{IssuedItem}
 use Rattle.issuing.specs.SpecFacts as spec
 use Rattle.issuing.specs.declared.spec_element.SpecElement.{SpecElement}
 use Rattle.store_laws.specs.Storable.{IsCopy, IsName, IsNamespace}
-use Rattle.package_laws.proofs.ItemsOfSpec.{AreItemsOf, pair_ns, placed-length, placed-names, placed-namespaces, placed-nested}
+use Rattle.package_laws.proofs.ItemsOfSpec.{AreItemsOf, pair_ns, raw_items-length, raw_items-names, raw_items-namespaces, raw_items-nested}
 use Rattle.package_laws.proofs.SpecValueItems.{item-of}
 use Rattle.package_laws.proofs.Namespaces.{distinct-names, named-in, namespaces-are-firsts, regrouped-fewer}
 
@@ -64,34 +64,34 @@ pub weaker : {A : Type 0} (P Q : A → Type 0) → ((x : A) → P x → Q x) →
 weaker P Q known [] all = tt
 weaker P Q known (x ∷ xs) all = (known x all.0, weaker P Q known xs all.1)
 
-namespace-of : (es : List SpecElement) (items : List IssuedItem) → AreItemsOf es items → spec.are_distinct es ≡ true → (ns : List ℕ) → IsName ns → IsNamespace (of_namespace (placed items) ns)
+namespace-of : (es : List SpecElement) (items : List IssuedItem) → AreItemsOf es items → spec.are_distinct es ≡ true → (ns : List ℕ) → IsName ns → IsNamespace (of_namespace (raw_items items) ns)
 namespace-of es items all distinct ns is =
     let found = named-in ns es items all in
     record {
       name = is;
-      nested = of-all (SpellsItem 25) ns (placed items) (placed-nested es items all);
+      nested = of-all (SpellsItem 25) ns (raw_items items) (raw_items-nested es items all);
       items = found.items;
       items_are = found.are;
       distinct = ap fields.are_distinct found.names_are ∙ distinct-names ns es distinct;
     }
 
-namespaces-of : (es : List SpecElement) (items : List IssuedItem) → AreItemsOf es items → spec.are_distinct es ≡ true → AllByRecursion IsNamespace (grouped (placed items))
+namespaces-of : (es : List SpecElement) (items : List IssuedItem) → AreItemsOf es items → spec.are_distinct es ≡ true → AllByRecursion IsNamespace (grouped (raw_items items))
 namespaces-of es items all distinct =
-    let names = map pair_ns (placed items) in
-    map-all IsNamespace (of_namespace (placed items)) (firsts names)
-    (weaker IsName (λ (ns : List ℕ). IsNamespace (of_namespace (placed items) ns)) (namespace-of es items all distinct) (firsts names)
-    (firsts-all IsName names (placed-names es items all)))
+    let names = map pair_ns (raw_items items) in
+    map-all IsNamespace (of_namespace (raw_items items)) (firsts names)
+    (weaker IsName (λ (ns : List ℕ). IsNamespace (of_namespace (raw_items items) ns)) (namespace-of es items all distinct) (firsts names)
+    (firsts-all IsName names (raw_items-names es items all)))
 
 -- ---- a copy
 
-pub copy-stored : (c : Copy) (items : List IssuedItem) (es : List SpecElement) → spec.IsCopy es → AreItemsOf es items → c.items ≡ placed items → c.key < 2 ^ 32
+pub copy-stored : (c : Copy) (items : List IssuedItem) (es : List SpecElement) → spec.IsCopy es → AreItemsOf es items → c.items ≡ raw_items items → c.key < 2 ^ 32
     → SpellsItem 27 c.issuer_auth → ((at : ℕ) → option_map length (items_in (record { at = at; bytes = c.issuer_auth })) ≡ Some 4) → IsCopy c
 copy-stored c items es is all same key auth four =
-    let few : length (placed items) ≤ 512 = let most = is.few in omega (arith, most, placed-length es items all) in
-    let groups : length (grouped (placed items)) ≤ 16 =
+    let few : length (raw_items items) ≤ 512 = let most = is.few in omega (arith, most, raw_items-length es items all) in
+    let groups : length (grouped (raw_items items)) ≤ 16 =
     let most = is.namespaces in
-    let one = map-length (of_namespace (placed items)) (firsts (map pair_ns (placed items))) in
-    let two = ap (λ (x : List (List ℕ)). length (firsts x)) (placed-namespaces es items all) in
+    let one = map-length (of_namespace (raw_items items)) (firsts (map pair_ns (raw_items items))) in
+    let two = ap (λ (x : List (List ℕ)). length (firsts x)) (raw_items-namespaces es items all) in
     let three = ap (λ (x : List (List ℕ)). length x) (namespaces-are-firsts es) in
     omega (arith, most, one, two, three) in
     record {
@@ -100,5 +100,5 @@ copy-stored c items es is all same key auth four =
       four = four;
       namespaces = subst (λ (x : List (List ℕ × List ℕ)). AllByRecursion IsNamespace (grouped x)) (sym same) (namespaces-of es items all is.distinct);
       few_namespaces = subst (λ (x : List (List ℕ × List ℕ)). length (grouped x) ≤ 16) (sym same) groups;
-      few_items = subst (λ (x : List (List ℕ × List ℕ)). length (regrouped x) ≤ 512) (sym same) (omega (arith, few, regrouped-fewer (placed items)));
+      few_items = subst (λ (x : List (List ℕ × List ℕ)). length (regrouped x) ≤ 512) (sym same) (omega (arith, few, regrouped-fewer (raw_items items)));
     }

@@ -11,7 +11,7 @@ use Rattle.cbor_maps.proofs.WrittenMaps.{piece-encoded}
 use Rattle.cbor_view.specs.Shortest.{shortest_form, shortest_head}
 use Rattle.cbor_view.specs.Spelling.{Form, Within, One, Two, Four, Eight, head}
 use Rattle.issued_items.proofs.ElementLemmas.{Checked, checked, name_short, name_text, ns_text}
-use Rattle.issued_items.specs.IssuedItems.{entries_of, item_of, items_after, number_in, placed}
+use Rattle.issued_items.specs.IssuedItems.{entries_of, item_of, items_after, number_in, raw_items}
 use Rattle.issued_items.specs.declared.issued_item.IssuedItem.{IssuedItem}
 use Rattle.issuer_items.proofs.ItemWritten.{item-written}
 use Rattle.issuer_items.specs.Item.{Item, item}
@@ -125,11 +125,11 @@ ns_of e = e.ns
 abbrev pub pair_ns : List ℕ × List ℕ → List ℕ
 pair_ns pair = pair.0
 
-pub placed-length : (es : List SpecElement) (items : List IssuedItem) → AreItemsOf es items → length (placed items) ≡ length es
-placed-length [] [] all = refl
-placed-length [] (i ∷ items) all = absurd all
-placed-length (e ∷ es) [] all = absurd all
-placed-length (e ∷ es) (i ∷ items) all = ap suc (placed-length es items all.1)
+pub raw_items-length : (es : List SpecElement) (items : List IssuedItem) → AreItemsOf es items → length (raw_items items) ≡ length es
+raw_items-length [] [] all = refl
+raw_items-length [] (i ∷ items) all = absurd all
+raw_items-length (e ∷ es) [] all = absurd all
+raw_items-length (e ∷ es) (i ∷ items) all = ap suc (raw_items-length es items all.1)
 
 pub entries-length : (es : List SpecElement) (items : List IssuedItem) → AreItemsOf es items → length (entries_of items) ≡ length es
 entries-length [] [] all = refl
@@ -137,33 +137,33 @@ entries-length [] (i ∷ items) all = absurd all
 entries-length (e ∷ es) [] all = absurd all
 entries-length (e ∷ es) (i ∷ items) all = ap suc (entries-length es items all.1)
 
-pub placed-namespaces : (es : List SpecElement) (items : List IssuedItem) → AreItemsOf es items → map pair_ns (placed items) ≡ map ns_of es
-placed-namespaces [] [] all = refl
-placed-namespaces [] (i ∷ items) all = absurd all
-placed-namespaces (e ∷ es) [] all = absurd all
-placed-namespaces (e ∷ es) (i ∷ items) all =
+pub raw_items-namespaces : (es : List SpecElement) (items : List IssuedItem) → AreItemsOf es items → map pair_ns (raw_items items) ≡ map ns_of es
+raw_items-namespaces [] [] all = refl
+raw_items-namespaces [] (i ∷ items) all = absurd all
+raw_items-namespaces (e ∷ es) [] all = absurd all
+raw_items-namespaces (e ∷ es) (i ∷ items) all =
     let own = all.0 in
-    ap (λ (x : List ℕ). x ∷ map pair_ns (placed items)) own.ns ∙ ap (λ (x : List (List ℕ)). e.ns ∷ x) (placed-namespaces es items all.1)
+    ap (λ (x : List ℕ). x ∷ map pair_ns (raw_items items)) own.ns ∙ ap (λ (x : List (List ℕ)). e.ns ∷ x) (raw_items-namespaces es items all.1)
 
-pub placed-names : (es : List SpecElement) (items : List IssuedItem) → AreItemsOf es items → AllByRecursion IsName (map pair_ns (placed items))
-placed-names [] [] all = tt
-placed-names [] (i ∷ items) all = absurd all
-placed-names (e ∷ es) [] all = absurd all
-placed-names (e ∷ es) (i ∷ items) all = let own = all.0 in (own.ns_is, placed-names es items all.1)
+pub raw_items-names : (es : List SpecElement) (items : List IssuedItem) → AreItemsOf es items → AllByRecursion IsName (map pair_ns (raw_items items))
+raw_items-names [] [] all = tt
+raw_items-names [] (i ∷ items) all = absurd all
+raw_items-names (e ∷ es) [] all = absurd all
+raw_items-names (e ∷ es) (i ∷ items) all = let own = all.0 in (own.ns_is, raw_items-names es items all.1)
 
-pub placed-nested : (es : List SpecElement) (items : List IssuedItem) → AreItemsOf es items → AllByRecursion (λ (pair : List ℕ × List ℕ). SpellsItem 25 pair.1) (placed items)
-placed-nested [] [] all = tt
-placed-nested [] (i ∷ items) all = absurd all
-placed-nested (e ∷ es) [] all = absurd all
-placed-nested (e ∷ es) (i ∷ items) all = let own = all.0 in (own.spells, placed-nested es items all.1)
+pub raw_items-nested : (es : List SpecElement) (items : List IssuedItem) → AreItemsOf es items → AllByRecursion (λ (pair : List ℕ × List ℕ). SpellsItem 25 pair.1) (raw_items items)
+raw_items-nested [] [] all = tt
+raw_items-nested [] (i ∷ items) all = absurd all
+raw_items-nested (e ∷ es) [] all = absurd all
+raw_items-nested (e ∷ es) (i ∷ items) all = let own = all.0 in (own.spells, raw_items-nested es items all.1)
 
-pub placed-digests : (es : List SpecElement) (items : List IssuedItem) → AreItemsOf es items → AreDigestsOf (entries_of items) (placed items)
-placed-digests [] [] all = tt
-placed-digests [] (i ∷ items) all = absurd all
-placed-digests (e ∷ es) [] all = absurd all
-placed-digests (e ∷ es) (i ∷ items) all =
+pub raw_items-digests : (es : List SpecElement) (items : List IssuedItem) → AreItemsOf es items → AreDigestsOf (entries_of items) (raw_items items)
+raw_items-digests [] [] all = tt
+raw_items-digests [] (i ∷ items) all = absurd all
+raw_items-digests (e ∷ es) [] all = absurd all
+raw_items-digests (e ∷ es) (i ∷ items) all =
     let own = all.0 in
-    (record { it = own.it; is_item = own.read; namespace = refl; number = own.number; digest = refl }, placed-digests es items all.1)
+    (record { it = own.it; is_item = own.read; namespace = refl; number = own.number; digest = refl }, raw_items-digests es items all.1)
 
 pub entries-spelled : (es : List SpecElement) (items : List IssuedItem) → AreItemsOf es items → AllHaveSpelling (entries_of items)
 entries-spelled [] [] all = tt

@@ -13,7 +13,7 @@ use Rattle.doc_response.specs.Namespaces.{added}
 use Rattle.doc_response.specs.WrittenReads.{regrouped, spread_group}
 use Rattle.doc_store.specs.Fields as fields
 use Rattle.doc_store.specs.Item.{if_item, item}
-use Rattle.issued_items.specs.IssuedItems.{placed, placed_of}
+use Rattle.issued_items.specs.IssuedItems.{raw_items, placed_of}
 use Rattle.issued_items.specs.declared.issued_item.IssuedItem.{IssuedItem}
 use Rattle.issuing.specs.SpecFacts.{are_distinct}
 use Rattle.issuing.specs.SpecNamespaces.{namespaces_after, namespaces_of, with_namespace}
@@ -183,7 +183,7 @@ name-more raw name raws names one rest = record {
   names_are = ap (λ (x : List (List ℕ)). name ∷ x) rest.names_are;
 }
 
-pub named-in : (ns : List ℕ) (es : List SpecElement) (items : List IssuedItem) → AreItemsOf es items → NamedIn (of_namespace (placed items) ns).1 (map name_of (filter (is_in ns) es))
+pub named-in : (ns : List ℕ) (es : List SpecElement) (items : List IssuedItem) → AreItemsOf es items → NamedIn (of_namespace (raw_items items) ns).1 (map name_of (filter (is_in ns) es))
 named-in ns [] [] all = record { items = []; are = refl; names_are = refl }
 named-in ns [] (i ∷ items) all = absurd all
 named-in ns (e ∷ es) [] all = absurd all
@@ -193,7 +193,7 @@ named-in ns (e ∷ es) (i ∷ items) all =
     (go (bytes_eq e.ns ns) (named-in ns es items all.1))
   where
     kept : List Pair
-    kept = filter (λ (pair : Pair). bytes_eq pair.0 ns) (placed items)
+    kept = filter (λ (pair : Pair). bytes_eq pair.0 ns) (raw_items items)
 
     go : (b : Bool) → NamedIn (map (λ (pair : Pair). pair.1) kept) (map name_of (filter (is_in ns) es))
         → NamedIn (map (λ (pair : Pair). pair.1) (cond b (placed_of i ∷ kept) kept)) (map name_of (cond b (e ∷ filter (is_in ns) es) (filter (is_in ns) es)))

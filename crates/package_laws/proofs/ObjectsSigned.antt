@@ -6,7 +6,7 @@ use Rattle.cose_msgs.specs.Written.{IsReadAs, es256, sign1_bytes}
 use Rattle.issued_items.proofs.ElementLemmas.{name_short}
 use Rattle.issued_items.proofs.ItemLemmas.{once_after}
 use Rattle.issued_items.proofs.ObjectLemmas.{update_is}
-use Rattle.issued_items.specs.IssuedItems.{entries_of, items_of, object_draft, payload, placed}
+use Rattle.issued_items.specs.IssuedItems.{entries_of, items_of, object_draft, payload, raw_items}
 use Rattle.issuing.proofs.SpecForms.{name_is_text}
 use Rattle.issuing.specs.SpecFacts.{IsSpec}
 use Rattle.issuing.specs.declared.spec_fields.SpecFields.{SpecFields}
@@ -17,7 +17,7 @@ use Rattle.mso_digests.proofs.WrittenObject.{object-written}
 use Rattle.mso_digests.specs.MadeFrom.{MadeFrom}
 use Rattle.mso_digests.specs.Object.{object}
 use Rattle.mso_digests.specs.Written.{drafted}
-use Rattle.package_laws.proofs.ItemsOfSpec.{AreItemsOf, entries-length, entries-spelled, placed-digests}
+use Rattle.package_laws.proofs.ItemsOfSpec.{AreItemsOf, entries-length, entries-spelled, raw_items-digests}
 use Rattle.package_laws.proofs.WrittenLengths.{object-shorter}
 
 pub object-read : (spec : SpecFields) (key : Point) (salts : List (List ℕ)) → IsSpec spec → AreItemsOf spec.elements (items_of spec.elements salts) → IsPoint key → length (payload spec key salts) < 2 ^ 32
@@ -38,11 +38,11 @@ object-read spec key salts is all point short =
       short = omega (arith, short, object-shorter draft);
     })
 
-pub object-made : (spec : SpecFields) (key : Point) (salts : List (List ℕ)) → AreItemsOf spec.elements (items_of spec.elements salts) → MadeFrom (drafted (object_draft spec key salts)) (placed (items_of spec.elements salts))
+pub object-made : (spec : SpecFields) (key : Point) (salts : List (List ℕ)) → AreItemsOf spec.elements (items_of spec.elements salts) → MadeFrom (drafted (object_draft spec key salts)) (raw_items (items_of spec.elements salts))
 object-made spec key salts all =
     let items = items_of spec.elements salts in
-    let are = placed-digests spec.elements items all in
-    record { lists = lists-items (entries_of items) (placed items) are; covers = covers-items (entries_of items) (placed items) are }
+    let are = raw_items-digests spec.elements items all in
+    record { lists = lists-items (entries_of items) (raw_items items) are; covers = covers-items (entries_of items) (raw_items items) are }
 
 pub signature-read : (chain own signature : List ℕ) → length chain < 2 ^ 32 → length own < 2 ^ 32 → length signature ≡ 64
     → IsReadAs sign1 (sign1_bytes (Some chain) (Some own) signature) (record { protected = es256; chain = Some chain; payload = Some own; signature = signature })

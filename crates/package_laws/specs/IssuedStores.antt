@@ -3,7 +3,7 @@ use Rattle.std.specs.Prelude.{◌≡◌, ℕ, false, List, [], ◌∷◌, length
 use Rattle.std.specs.List.{All, AllByRecursion}
 use Rattle.doc_store.specs.Store.{Copy, Document, store}
 use Rattle.issue_questions.specs.Ends.{end_at}
-use Rattle.issued_items.specs.IssuedItems.{items_of, placed}
+use Rattle.issued_items.specs.IssuedItems.{items_of, raw_items}
 use Rattle.issuing.specs.SpecFacts.{IsSpec}
 use Rattle.issuing.specs.SpecFile.{spec_of}
 use Rattle.issuing.specs.declared.spec_fields.SpecFields.{SpecFields}
@@ -24,7 +24,7 @@ pub record IsCopyOf (fields : SpecFields) (copy : Copy) : Type 0 where
   pub salts : List (List ℕ)
   pub one_each : length salts ≡ length fields.elements
   pub sized : All (λ s. length s ≡ 32) salts
-  pub items : copy.items ≡ placed (items_of fields.elements salts)
+  pub items : copy.items ≡ raw_items (items_of fields.elements salts)
   pub used : copy.used ≡ false
 
 -- The bytes are a store of one document of the spec with as many copies as it asks for, which is within the limits of the

@@ -158,7 +158,7 @@ type-pieces (doc_type ∷ types) all = (type-piece doc_type all.0, type-pieces t
 record TypesRead (parts : List Part) (types : List (List ℕ)) : Type 0 where
   maps : List (List (List ℕ × Part))
   is : each errors_in parts ≡ Some maps
-  same : map plain_part (reading.joined maps) ≡ map not_returned types
+  same : map plain_part (reading.all_errors maps) ≡ map not_returned types
 
 types-read : (at : ℕ) (types : List (List ℕ)) → AllByRecursion IsText types → TypesRead (parts_from at (map document_error types)) types
 types-read at [] all = record { maps = []; is = refl; same = refl }
@@ -168,8 +168,8 @@ types-read at (doc_type ∷ types) all =
     record {
       maps = one.errors ∷ rest.maps;
       is = rw one.is (rw rest.is refl);
-      same = map-append plain_part one.errors (reading.joined rest.maps)
-          ∙ ap (λ (x : List (List ℕ × List ℕ)). x ++ map plain_part (reading.joined rest.maps)) one.same
+      same = map-append plain_part one.errors (reading.all_errors rest.maps)
+          ∙ ap (λ (x : List (List ℕ × List ℕ)). x ++ map plain_part (reading.all_errors rest.maps)) one.same
           ∙ ap (λ (x : List (List ℕ × List ℕ)). not_returned doc_type ∷ x) rest.same;
     }
 
@@ -191,7 +191,7 @@ document-errors-read m (doc_type ∷ types) all few has =
     let parts = map document_error (doc_type ∷ types) in
     let read = types-read (items_begin has.at parts) (doc_type ∷ types) all in
     record {
-      errors = reading.joined read.maps;
+      errors = reading.all_errors read.maps;
       is = rw has.is (rw (items-written 1 parts has.at (type-pieces (doc_type ∷ types) all) (omega arith) (few-types (doc_type ∷ types) few)) (rw read.is refl));
       same = read.same;
     }
