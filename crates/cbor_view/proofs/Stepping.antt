@@ -1,13 +1,17 @@
 -- One step along items that follow one another.
-use Rattle.std.proofs.Common.{◌≡◌, ℕ, zero, suc, ◌-◌, ◌<◌, ◌≤◌, List, [], ◌∷◌, length, take, drop, Bool, true, false, ◌&&◌, Ok, Err, refl, ap, subst, arith, is_ok}
+use Rattle.std.proofs.Common.{◌≡◌, ℕ, zero, suc, ◌-◌, ◌<◌, ◌≤◌, List, [], ◌∷◌, length, take, drop, Bool, true, false, ◌&&◌, Ok, Err, refl, ap, ◌∙◌, subst, arith, is_ok, Result, Err, if◌then◌else◌}
+use Rattle.std.specs.Str.{is_utf8}
+use Rattle.cbor_view.specs.declared.cbor_kind.CborKind.TheVariants.{BadText}
+use Rattle.cbor_view.specs.declared.heads.Head.TheVariants as heads
 use Rattle.cbor_view.specs.declared.stop.Stop.{Stop}
-use Rattle.cbor_view.specs.Reading.{item_at, past, past_or_none, size, reads, head_at}
+use Rattle.cbor_view.specs.Tree.{Tree, Text}
+use Rattle.cbor_view.specs.Reading.{◌>>=◌, item_at, past, past_or_none, size, reads, head_at, stop, string_at}
 use Rattle.cbor_view.specs.Parts.{Part, first_part, after_first, parts_at, entries_at}
 use Rattle.cbor_view.specs.Opening.{begins, are_items, are_pairs}
 use Rattle.std.proofs.lemmas.List.{length-append}
 use Rattle.cbor_view.proofs.HeadReading.{AreBytes}
 use Rattle.cbor_view.proofs.ItemReading.{item-sound}
-use Rattle.cbor_view.proofs.Steps.{first-of, failed}
+use Rattle.cbor_view.proofs.Steps.{first-of, failed, past-item}
 
 pub parts_none : (n : ℕ) (p : Part) → n ≡ 0 → parts_at n p ≡ []
 unfolding parts_at
@@ -84,6 +88,27 @@ begins_past bytes s e b =
     let t : is_ok (reads (take 0 bytes)) ≡ true = subst (λ m. is_ok (reads (take m bytes)) ≡ true) n b in
     let f = nothing_read in
     cc
+
+-- a text that begins where it was read before is UTF-8
+abbrev as_text : List ℕ × List ℕ → Result (Tree × List ℕ) Stop
+as_text s = Ok (Text s.0, s.1)
+
+is_read : (left : ℕ) (good : Bool) (s : List ℕ × List ℕ) → ((fault : Stop) → past ((if good then Ok s else stop BadText left) >>= as_text) ≡ Err fault → ⊥)
+    → past ((if good then Ok s else stop BadText left) >>= as_text) ≡ Ok s.1
+is_read left true s faultless = refl
+is_read left false s faultless = absurd (faultless (record { kind = BadText; left = left }) refl)
+
+is_string : (left : ℕ) (read : Result (List ℕ × List ℕ) Stop)
+    → ((fault : Stop) → past ((read >>= λ s. if is_utf8 s.0 then Ok s else stop BadText left) >>= as_text) ≡ Err fault → ⊥)
+    → past ((read >>= λ s. if is_utf8 s.0 then Ok s else stop BadText left) >>= as_text) ≡ past read
+is_string left (Ok s) faultless = is_read left (is_utf8 s.0) s faultless
+is_string left (Err fault) faultless = refl
+
+pub text_again : (bytes : List ℕ) (n : ℕ) (rest : List ℕ) → head_at bytes ≡ Ok (heads.Text n, rest) → begins bytes ≡ true
+    → past (item_at 32 bytes) ≡ past (string_at (length bytes) n rest)
+text_again bytes n rest head begun =
+    let opened = past-item 32 bytes rest (heads.Text n) head in
+    opened ∙ is_string (length bytes) (string_at (length bytes) n rest) (λ fault e. begins_past bytes fault (opened ∙ e) begun)
 
 -- what one step of each iterator wants
 pub ruleset item_steps = (parts_none, parts_step, items_begin, items_step)

@@ -15,7 +15,7 @@ use crate::heads::{Head, read_head};
 use crate::items::Items;
 use crate::key::Key;
 use crate::pairs::Pairs;
-use crate::walk::{skip, walk};
+use crate::walk::{skip, skip_again, walk};
 
 /// The tag of a byte string that holds an encoded item (RFC 8949, section 3.4.5.1).
 pub const ENCODED: u64 = 24;
@@ -243,7 +243,7 @@ impl<'a> View<'a> {
         ensures len { length (part result.0).bytes ≡ size bytes.now }
         ensures within { size bytes.now ≤ length bytes.now }
     {
-        match skip(bytes, MOST_LEVELS) {
+        match skip_again(bytes) {
             Ok(rest) => {
                 let (slice, rest) = bytes.split_at(bytes.len() - rest.len());
                 (View { slice, at }, rest)

@@ -1,13 +1,15 @@
 //! The walk over one item: where it ends, or its first fault. It goes down one level of nesting at a
 //! time, and no deeper than it may.
 
-ghost use Rattle.std.specs.Prelude.{◌≡◌, ◌-◌, OnOk, min};
+ghost use Rattle.std.specs.Prelude.{◌≡◌, ◌-◌, IsTrue, OnOk, min};
+ghost use Rattle.cbor_view.specs.Opening.{begins};
 ghost use Rattle.cbor_view.specs.Reading.{Gives, string_at, text_at, items_at, pairs_at, item_at, behind, inner, levels_inside, levels_left, past};
 ghost use Rattle.cbor_view.specs.Tree.{levels, levels_of_all, levels_of_pairs};
 
 use crate::cbor_kind::CborKind;
 use crate::heads::{Head, read_head};
 use crate::stop::Stop;
+use crate::view::MOST_LEVELS;
 
 /// The first length and the first count that is too large.
 pub(crate) const LENGTHS_END: u64 = 0x1_0000_0000;
@@ -18,6 +20,22 @@ pub(crate) fn skip(bytes: &[u8], most: u32) -> Result<&[u8], Stop>
 {
     let mut fewest = most;
     walk(bytes, most, &mut fewest)
+}
+
+/// What follows the item that begins there. It was read before: a text isn't read as UTF-8 again.
+pub(crate) fn skip_again(bytes: &[u8]) -> Result<&[u8], Stop>
+    requires { IsTrue (begins bytes.now) }
+    ensures { Gives (λ x. x.now) result (past (item_at 32 bytes.now)) }
+{
+    let mut fewest = MOST_LEVELS;
+    match read_head(bytes) {
+        Ok((Head::Text(len), rest)) => skip_string(bytes.len(), len, rest),
+        Ok((head, rest)) => walk_after(bytes.len(), head, rest, MOST_LEVELS, &mut fewest),
+        Err(kind) => Err(Stop {
+            kind,
+            left: bytes.len(),
+        }),
+    }
 }
 
 /// What follows the item at the front, which may have so many levels, and the fewest levels that
