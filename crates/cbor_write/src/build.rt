@@ -1,5 +1,5 @@
 // Bytes of CBOR that are being written.
-ghost use Rattle.std.specs.Prelude.{◌≡◌, ◌^◌, ◌<◌, ◌≤◌, ℕ, List, [], ◌++◌, length, OnOk, OnErr};
+ghost use Rattle.std.specs.Prelude.{◌≡◌, ◌^◌, ◌<◌, ◌≤◌, ℕ, List, [], ◌++◌, length, IfOk, OnOk, OnErr};
 ghost use Rattle.cbor_view.specs.Shortest.{boolean_bytes, bytes_bytes, int_bytes, null_bytes, shortest_head, text_bytes, uint_bytes};
 ghost use Rattle.cbor_view.specs.View.{part};
 
@@ -53,6 +53,14 @@ impl Build {
         Build {
             bytes: Vec::new(alloc),
         }
+    }
+
+    /// No bytes yet, with room for so many: while no more are appended, none are moved.
+    pub fn with_room(alloc: Global, room: usize) -> Result<Build, Memory>
+        ensures { IfOk result (λ b. b ≡ []) }
+    {
+        let bytes = Vec::with_capacity(alloc, room)?;
+        Ok(Build { bytes })
     }
 
     /// Appends an unsigned number (major type 0).
