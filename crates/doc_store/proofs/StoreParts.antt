@@ -50,6 +50,11 @@ store_spelled bytes fault read is = go (cbor bytes) read is where
   go (Err f) read e = cc
   go (Ok f) read e = cc
 
+-- bytes that spell a store spell its documents
+pub store_given : (spelled : Option Store) → is_some spelled ≡ true → spelled ≡ Some (unwrap_or spelled [])
+store_given None e = cc
+store_given (Some documents) e = refl
+
 -- ---- the document of a type
 
 abbrev first : List ℕ → Store → ℕ

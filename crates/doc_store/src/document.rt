@@ -26,6 +26,13 @@ pub struct Document<'a> {
 impl<'a> Document<'a> {
     ghost use Rattle.doc_store.specs.Document.{document_of, document_part};
 
+    /// How many bytes of its store it is.
+    pub fn size(&self) -> usize
+        ensures { result ≡ length (document_part self.now).bytes }
+    {
+        self.stored.raw().len()
+    }
+
     /// The document type (ISO/IEC 18013-5, 8.3.2.1.2.1).
     pub fn doc_type(&self) -> &'a str
         ensures exact { result.now ≡ (document_of self.now).doc_type }

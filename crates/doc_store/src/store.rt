@@ -38,6 +38,14 @@ impl<'a> Store<'a> {
         }
     }
 
+    /// The bytes of the file, which spell the store.
+    pub fn bytes(&self) -> &'a [u8]
+        ensures whole { result.now ≡ (whole_file self.now).bytes }
+        ensures spelled { store result.now ≡ Some (documents_in self.now) }
+    {
+        self.bytes
+    }
+
     /// How many documents there are, at most 16.
     pub fn documents(&self) -> usize
         ensures { result ≡ length (documents_in self.now) }

@@ -10,6 +10,7 @@ ghost use Rattle.store_write.specs.Written.{copy_bytes};
 
 use crate::CopyDraft;
 use crate::fields::{count_of, put_key, put_map};
+use crate::room::copy_room;
 use cbor_write::Build;
 use doc_response::{ReleasedItem, put_items};
 use doc_store::{Document, StoredCopy};
@@ -36,7 +37,7 @@ pub fn put_copy(alloc: Global, build: &mut Build, copy: &CopyDraft<'_>) -> Resul
 pub fn write_copy(alloc: Global, copy: &CopyDraft<'_>) -> Result<Octets, Memory>
     ensures { IfOk result (λ b. b ≡ copy_bytes (copy_seen copy.now)) }
 {
-    let mut build = Build::new(alloc);
+    let mut build = Build::with_room(alloc, copy_room(copy))?;
     put_copy(alloc, &mut build, copy)?;
     Ok(build.finish())
 }

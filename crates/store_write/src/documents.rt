@@ -7,6 +7,7 @@ ghost use Rattle.store_write.specs.Written.{document_bytes, store_bytes};
 
 use crate::copies::put_stored_copies;
 use crate::fields::{VERSION, auth_number, count_of, put_key, put_map};
+use crate::room::store_room;
 use cbor_write::Build;
 use doc_store::Document;
 use mdoc_outside::{KeyName, Memory, Octets};
@@ -42,7 +43,7 @@ fn put_documents(alloc: Global, build: &mut Build, documents: &[Document<'_>]) -
 pub fn write_store(alloc: Global, documents: &[Document<'_>]) -> Result<Octets, Memory>
     ensures { IfOk result (λ b. b ≡ store_bytes (map document_of documents.now)) }
 {
-    let mut build = Build::new(alloc);
+    let mut build = Build::with_room(alloc, store_room(documents))?;
     put_map(&mut build, 2)?;
     put_key(&mut build, KeyName::Version)?;
     build.uint(VERSION)?;

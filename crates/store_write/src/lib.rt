@@ -9,6 +9,7 @@ mod copy_draft;
 mod documents;
 mod fields;
 mod package;
+mod room;
 mod sharing;
 
 pub use copies::{put_copy, write_copy};

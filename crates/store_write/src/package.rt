@@ -5,6 +5,7 @@ ghost use Rattle.cbor_view.specs.Shortest.{array_bytes};
 ghost use Rattle.store_write.specs.Written.{document_map, store_map};
 
 use crate::fields::{VERSION, auth_number, count_of, put_key, put_map};
+use crate::room::package_room;
 use cbor_write::Build;
 use mdoc_outside::{KeyName, Memory, Octets};
 use std::alloc::Global;
@@ -49,7 +50,7 @@ pub fn write_package(
 ) -> Result<Octets, Memory>
     ensures { IfOk result (λ b. b ≡ store_map (document_map doc_type.now uses_mac copies.now ∷ [])) }
 {
-    let mut build = Build::new(alloc);
+    let mut build = Build::with_room(alloc, package_room(doc_type, copies))?;
     put_map(&mut build, 2)?;
     put_key(&mut build, KeyName::Version)?;
     build.uint(VERSION)?;
