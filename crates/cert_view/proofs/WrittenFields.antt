@@ -29,9 +29,13 @@ pub algorithm-read : (at : ℕ) → tbs.algorithm (place at algorithm) ≡ Ok tt
 unfolding first_at reads tag_of body_of parts_up_to parts_at
 algorithm-read at = refl
 
-pub extensions-read : (p : Part) (at : ℕ) → tbs.extensions p (tbs.after_unique_identifiers (Ok (place at (extensions true)) ∷ [])) ≡ Ok (Some true)
+pub extensions-last : (at : ℕ) → tbs.none_or_one (tbs.after_unique_identifiers (Ok (place at (extensions true)) ∷ [])) ≡ Some (Some (place at (extensions true)))
 unfolding first_at reads tag_of body_of parts_up_to parts_at
-extensions-read p at = refl
+extensions-last at = refl
+
+pub extensions-read : (at : ℕ) → tbs.extensions (Some (place at (extensions true))) ≡ Ok (Some true)
+unfolding first_at reads tag_of body_of parts_up_to parts_at
+extensions-read at = refl
 
 -- ---- tags
 

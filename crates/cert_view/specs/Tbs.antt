@@ -77,7 +77,15 @@ public_key p = do
   y ← both (key_algorithm x.0) (tagged 0x03 x.1)
   or_fault (fault KeyKind p.at) (point_under y.0 y.1)
 
--- the seven parts that each certificate has, and those after them
+-- [1] and [2], the unique identifiers in their primitive form, are ignored
+abbrev pub after_unique_identifiers : List (Result Part DerFault) → List (Result Part DerFault)
+after_unique_identifiers parts = after_optional 0x82 (after_optional 0x81 parts)
+
+-- no part, or one
+abbrev pub none_or_one : List (Result Part DerFault) → Option (Option Part)
+none_or_one parts = if is_empty parts then Some None else (one parts >>? λ p. Some (Some p))
+
+-- the seven parts that each certificate has, and the extensions, where they are there
 pub record Layout : Type 0 where
   pub version : Part
   pub serial : Part
@@ -86,12 +94,14 @@ pub record Layout : Type 0 where
   pub validity : Part
   pub subject : Part
   pub key : Part
-  pub others : List (Result Part DerFault)
+  pub extensions : Option Part
 
+-- all of the parts: too few and too many are no layout
 abbrev pub layout : List (Result Part DerFault) → Option Layout
 layout parts =
     front parts >>? λ a. front a.1 >>? λ b. front b.1 >>? λ c. front c.1 >>? λ d.
     front d.1 >>? λ e. front e.1 >>? λ f. front f.1 >>? λ g.
+    none_or_one (after_unique_identifiers g.1) >>? λ last.
     Some (record {
       version = a.0;
       serial = b.0;
@@ -100,21 +110,16 @@ layout parts =
       validity = e.0;
       subject = f.0;
       key = g.0;
-      others = g.1;
+      extensions = last;
     })
 
--- [1] and [2], the unique identifiers in their primitive form, are ignored
-abbrev pub after_unique_identifiers : List (Result Part DerFault) → List (Result Part DerFault)
-after_unique_identifiers parts = after_optional 0x82 (after_optional 0x81 parts)
-
--- nothing after them, or [3] with the extensions
-abbrev pub extensions : Part → List (Result Part DerFault) → Result (Option Bool) CertFault
-extensions p parts =
-    if is_empty parts then Ok None else (do
-      last ← or_fault (fault Shape p.at) (one parts)
-      list ← of_shape one 0xa3 last
-      inner ← parts_in 0x30 list
-      with_extensions (Ok None) inner)
+-- nothing, or [3] with the extensions
+abbrev pub extensions : Option Part → Result (Option Bool) CertFault
+extensions None = Ok None
+extensions (Some last) = do
+  list ← of_shape one 0xa3 last
+  inner ← parts_in 0x30 list
+  with_extensions (Ok None) inner
 
 -- what is read of the to-be-signed part
 pub record Tbs : Type 0 where
@@ -137,8 +142,8 @@ heading l = both (numbering l) (algorithm l.algorithm)
 abbrev pub names : Layout → Result (Part × Part) CertFault
 names l = both (tagged 0x30 l.issuer) (tagged 0x30 l.subject)
 
-abbrev pub values : Part → Layout → Result ((ℤ × ℤ) × (Point × Option Bool)) CertFault
-values p l = both (validity l.validity) (both (public_key l.key) (extensions p (after_unique_identifiers l.others)))
+abbrev pub values : Layout → Result ((ℤ × ℤ) × (Point × Option Bool)) CertFault
+values l = both (validity l.validity) (both (public_key l.key) (extensions l.extensions))
 
 abbrev pub tbs_of : (Part × Part) → (ℤ × ℤ) → Point → Option Bool → Tbs
 tbs_of n times key purposes = record {
@@ -150,13 +155,12 @@ tbs_of n times key purposes = record {
   signs_documents = unwrap_or purposes false;
 }
 
-abbrev pub contents : Part → Layout → Result Tbs CertFault
-contents p l = do
-  x ← both (names l) (both (heading l) (values p l))
+abbrev pub contents : Layout → Result Tbs CertFault
+contents l = do
+  x ← both (names l) (both (heading l) (values l))
   Ok (tbs_of x.0 x.1.1.0 x.1.1.1.0 x.1.1.1.1)
 
 abbrev pub to_be_signed : Part → Result Tbs CertFault
 to_be_signed p = do
-  parts ← parts_in 0x30 p
-  l ← or_fault (fault Shape p.at) (layout parts)
-  contents p l
+  l ← of_shape layout 0x30 p
+  contents l

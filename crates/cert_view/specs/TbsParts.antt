@@ -1,6 +1,6 @@
 -- What contracts see of the parts of the to-be-signed part.
+use Rattle.std.specs.Prelude.{option_map}
 use Rattle.der_view.specs.Der.{part}
-use Rattle.der_view.specs.PartsLeft.{left}
 use Rattle.cert_view.specs.Tbs.{Layout}
 use Rattle.cert_view.specs.declared.tbs_parts.TbsParts.{TbsParts}
 
@@ -13,5 +13,5 @@ layout_of l = record {
   validity = part l.validity;
   subject = part l.subject;
   key = part l.key;
-  others = left l.others;
+  extensions = option_map part l.extensions;
 }

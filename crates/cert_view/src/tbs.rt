@@ -5,16 +5,16 @@ ghost use Rattle.der_view.specs.Der.{part};
 ghost use Rattle.der_view.specs.PartsLeft.{left};
 ghost use Rattle.der_view.specs.Reading.{Gives};
 ghost use Rattle.cert_view.specs.Shapes.{of_shape};
-ghost use Rattle.cert_view.specs.Tbs.{version, one_or_two, algorithm, time, validity, key_algorithm, point_under, public_key, after_unique_identifiers, extensions, numbering, heading, names, values, contents, to_be_signed};
+ghost use Rattle.cert_view.specs.Tbs.{version, one_or_two, algorithm, time, validity, key_algorithm, point_under, public_key, extensions, numbering, heading, names, values, contents, to_be_signed};
 ghost use Rattle.cert_view.specs.TbsParts.{layout_of};
 ghost use Rattle.cert_view.specs.Cert.{tbs_fields};
 
 use crate::cert_check::CertCheck;
 use crate::cert_fault::CertFault;
-use crate::extensions::{after_optional, all_extensions};
+use crate::extensions::all_extensions;
 use crate::first_fault::both;
 use crate::keys::point_of;
-use crate::shapes::{fault_at, front, has_tag, is_empty, one, one_in, parts_in, tagged, two_in};
+use crate::shapes::{fault_at, front, has_tag, is_empty, one_in, parts_in, tagged, two_in};
 use crate::tbs_parts::{TbsParts, tbs_parts};
 use crate::times::{generalized_time, utc_time};
 use der_view::{Der, Parts};
@@ -140,23 +140,13 @@ fn public_key(element: Der<'_>) -> Result<Point, CertFault>
     }
 }
 
-/// The parts after the unique identifiers `[1]` and `[2]`, which are ignored.
-fn after_unique_identifiers(parts: Parts<'_>) -> Parts<'_>
-    ensures { left result ≡ after_unique_identifiers (left parts.entry) }
+/// What the extensions say of the purposes: nothing where there are none, else `[3]` with them.
+fn extensions(last: Option<Der<'_>>) -> Result<Option<bool>, CertFault>
+    ensures { result ≡ extensions (option_map part last.entry) }
 {
-    after_optional(0x82, after_optional(0x81, parts))
-}
-
-/// What the extensions say of the purposes: nothing after the key, or `[3]` with them.
-fn extensions(element: Der<'_>, parts: Parts<'_>) -> Result<Option<bool>, CertFault>
-    ensures { result ≡ extensions (part element.entry) (left parts.entry) }
-{
-    if is_empty(parts) {
-        return Ok(None);
-    }
-    match one(parts) {
+    match last {
         Some(last) => all_extensions(parts_in(0x30, one_in(0xa3, last)?)?),
-        None => Err(fault_at(CertCheck::Shape, element)),
+        None => Ok(None),
     }
 }
 
@@ -185,13 +175,10 @@ fn names<'a>(parts: TbsParts<'a>) -> Result<(Der<'a>, Der<'a>), CertFault>
 }
 
 /// The validity, the key and what the extensions say of its purposes.
-fn values(
-    element: Der<'_>,
-    parts: TbsParts<'_>,
-) -> Result<((i64, i64), (Point, Option<bool>)), CertFault>
-    ensures { result ≡ values (part element.entry) (layout_of parts.entry) }
+fn values(parts: TbsParts<'_>) -> Result<((i64, i64), (Point, Option<bool>)), CertFault>
+    ensures { result ≡ values (layout_of parts.entry) }
 {
-    let purposes = extensions(element, after_unique_identifiers(parts.others));
+    let purposes = extensions(parts.extensions);
     both(
         validity(parts.validity),
         both(public_key(parts.key), purposes),
@@ -199,10 +186,10 @@ fn values(
 }
 
 /// What is read of the parts.
-fn contents<'a>(element: Der<'a>, parts: TbsParts<'a>) -> Result<TbsFields<'a>, CertFault>
-    ensures { Gives tbs_fields result (contents (part element.entry) (layout_of parts.entry)) }
+fn contents<'a>(parts: TbsParts<'a>) -> Result<TbsFields<'a>, CertFault>
+    ensures { Gives tbs_fields result (contents (layout_of parts.entry)) }
 {
-    let others = both(heading(parts), values(element, parts));
+    let others = both(heading(parts), values(parts));
     match both(names(parts), others) {
         Ok(((issuer, subject), (_, (times, (key, purposes))))) => Ok(TbsFields {
             issuer: issuer.raw(),
@@ -221,7 +208,7 @@ pub(crate) fn to_be_signed<'a>(element: Der<'a>) -> Result<TbsFields<'a>, CertFa
     ensures { Gives tbs_fields result (to_be_signed (part element.entry)) }
 {
     match tbs_parts(parts_in(0x30, element)?) {
-        Some(parts) => contents(element, parts),
+        Some(parts) => contents(parts),
         None => Err(fault_at(CertCheck::Shape, element)),
     }
 }

@@ -24,7 +24,7 @@ use Rattle.certificate_laws.proofs.Firsts.{In, in-left, in-right, in-cases, Repo
 use Rattle.certificate_laws.proofs.Made.{IsRead, all-sound, parts-each, der-sound}
 use Rattle.certificate_laws.proofs.Rows.{list-reports}
 use Rattle.certificate_laws.proofs.Shapes.{tag-reports, parts-reports, shape-reports, version-reports, algorithm-reports, validity-reports, key-reports, signature-reports}
-use Rattle.certificate_laws.proofs.Tbs.{optional-sound, layout-sound, listed_in, tagged_in}
+use Rattle.certificate_laws.proofs.Tbs.{last_of, layout-sound, listed_in, tagged_in}
 use Rattle.certificate_laws.proofs.Whole.{certificate-sound, certificate-complete}
 
 -- ---- the extensions
@@ -54,9 +54,9 @@ tagged-reports : (last : Part) → IsRead last.bytes → Reports (tagged_in last
 tagged-reports last read = shape-reports one listed_in in_list 0xa3 last
     (λ list is ok e. listed-reports list (one-read (parts_of last) list (row-of 0xa3 last read is ok) e))
 
-extensions-reports : (p : Part) (ps : List (Result Part DerFault)) → Row ps → Reports (tbs.extensions p ps) (extensions_faults p.at ps)
-extensions-reports p [] row = λ g i. i
-extensions-reports p (q ∷ ps) row = in-reports (fault Shape p.at) (one (q ∷ ps)) tagged_in tagged_faults (λ last e. tagged-reports last (one-read (q ∷ ps) last row e))
+extensions-reports : (last : Option Part) → AllByRecursion IsRead (last_of last) → Reports (tbs.extensions last) (extensions_faults last)
+extensions-reports None each = λ g i. i
+extensions-reports (Some last) each = tagged-reports last each.0
 
 -- ---- the to-be-signed part
 
@@ -111,9 +111,8 @@ from-order v n a i t s k x g h = elim (in-cases g ((((((v ++ n) ++ a) ++ i) ++ t
 abbrev Values : Type 0
 Values = (Part × Part) × ((Unit {0} × Unit {0}) × ((ℤ × ℤ) × (Point × Option Bool)))
 
-contents-reports : (p : Part) (l : Layout) → Reports (tbs.extensions p (tbs.after_unique_identifiers l.others)) (extensions_faults p.at (tbs.after_unique_identifiers l.others)) → Reports (tbs.contents p l) (layout_faults p.at l)
-contents-reports p l ext =
-    let behind = tbs.after_unique_identifiers l.others in
+contents-reports : (l : Layout) → Reports (tbs.extensions l.extensions) (extensions_faults l.extensions) → Reports (tbs.contents l) (layout_faults l)
+contents-reports l ext =
     let v = version_faults l.version in
     let n = tag_faults 0x02 l.serial in
     let a = algorithm_faults l.algorithm in
@@ -121,40 +120,25 @@ contents-reports p l ext =
     let t = validity_faults l.validity in
     let s = tag_faults 0x30 l.subject in
     let k = key_faults l.key in
-    let x = extensions_faults p.at behind in
+    let x = extensions_faults l.extensions in
     let names : Reports (tbs.names l) (i ++ s) = both-reports (tagged 0x30 l.issuer) (tagged 0x30 l.subject) i s (tag-reports 0x30 l.issuer) (tag-reports 0x30 l.subject) in
     let checked = both (tbs.version l.version) (tagged 0x02 l.serial) in
     let numbering : Reports (tbs.numbering l) (v ++ n) = mapped-reports checked (λ (y : Unit {0} × Part). tt) (v ++ n) (both-reports (tbs.version l.version) (tagged 0x02 l.serial) v n (version-reports l.version) (tag-reports 0x02 l.serial)) in
     let heading : Reports (tbs.heading l) (v ++ n ++ a) = both-reports (tbs.numbering l) (tbs.algorithm l.algorithm) (v ++ n) a numbering (algorithm-reports l.algorithm) in
-    let inner : Reports (both (tbs.public_key l.key) (tbs.extensions p behind)) (k ++ x) = both-reports (tbs.public_key l.key) (tbs.extensions p behind) k x (key-reports l.key) ext in
-    let values : Reports (tbs.values p l) (t ++ (k ++ x)) = both-reports (tbs.validity l.validity) (both (tbs.public_key l.key) (tbs.extensions p behind)) t (k ++ x) (validity-reports l.validity) inner in
-    let others : Reports (both (tbs.heading l) (tbs.values p l)) ((v ++ n ++ a) ++ (t ++ (k ++ x))) = both-reports (tbs.heading l) (tbs.values p l) (v ++ n ++ a) (t ++ (k ++ x)) heading values in
-    let all : Reports (both (tbs.names l) (both (tbs.heading l) (tbs.values p l))) ((i ++ s) ++ ((v ++ n ++ a) ++ (t ++ (k ++ x)))) = both-reports (tbs.names l) (both (tbs.heading l) (tbs.values p l)) (i ++ s) ((v ++ n ++ a) ++ (t ++ (k ++ x))) names others in
-    let whole : Reports (tbs.contents p l) ((i ++ s) ++ ((v ++ n ++ a) ++ (t ++ (k ++ x)))) = mapped-reports (both (tbs.names l) (both (tbs.heading l) (tbs.values p l))) (λ (y : Values). tbs.tbs_of y.0 y.1.1.0 y.1.1.1.0 y.1.1.1.1) ((i ++ s) ++ ((v ++ n ++ a) ++ (t ++ (k ++ x)))) all in
-    reports-same (tbs.contents p l) ((i ++ s) ++ ((v ++ n ++ a) ++ (t ++ (k ++ x)))) (layout_faults p.at l) (to-order v n a i t s k x) (from-order v n a i t s k x) whole
-
--- what follows the key and the unique identifiers
-behind-row : (ps : List (Result Part DerFault)) (l : Layout) → Row ps → layout ps ≡ Some l → Row (tbs.after_unique_identifiers l.others)
-behind-row ps l row e =
-    let w = layout-sound row.at row.parts l (ap layout (sym row.is) ∙ e) in
-    let each = subst (AllByRecursion IsRead) w.are row.each in
-    let one_id = optional-sound 0x81 w.next w.rest each.1.1.1.1.1.1.1 in
-    let two_id = optional-sound 0x82 one_id.next one_id.rest one_id.each in
-    record {
-      at = two_id.next;
-      parts = two_id.rest;
-      is = ap tbs.after_unique_identifiers w.others ∙ ap (after_optional 0x82) one_id.left ∙ two_id.left;
-      each = two_id.each;
-    }
+    let inner : Reports (both (tbs.public_key l.key) (tbs.extensions l.extensions)) (k ++ x) = both-reports (tbs.public_key l.key) (tbs.extensions l.extensions) k x (key-reports l.key) ext in
+    let values : Reports (tbs.values l) (t ++ (k ++ x)) = both-reports (tbs.validity l.validity) (both (tbs.public_key l.key) (tbs.extensions l.extensions)) t (k ++ x) (validity-reports l.validity) inner in
+    let others : Reports (both (tbs.heading l) (tbs.values l)) ((v ++ n ++ a) ++ (t ++ (k ++ x))) = both-reports (tbs.heading l) (tbs.values l) (v ++ n ++ a) (t ++ (k ++ x)) heading values in
+    let all : Reports (both (tbs.names l) (both (tbs.heading l) (tbs.values l))) ((i ++ s) ++ ((v ++ n ++ a) ++ (t ++ (k ++ x)))) = both-reports (tbs.names l) (both (tbs.heading l) (tbs.values l)) (i ++ s) ((v ++ n ++ a) ++ (t ++ (k ++ x))) names others in
+    let whole : Reports (tbs.contents l) ((i ++ s) ++ ((v ++ n ++ a) ++ (t ++ (k ++ x)))) = mapped-reports (both (tbs.names l) (both (tbs.heading l) (tbs.values l))) (λ (y : Values). tbs.tbs_of y.0 y.1.1.0 y.1.1.1.0 y.1.1.1.1) ((i ++ s) ++ ((v ++ n ++ a) ++ (t ++ (k ++ x)))) all in
+    reports-same (tbs.contents l) ((i ++ s) ++ ((v ++ n ++ a) ++ (t ++ (k ++ x)))) (layout_faults l) (to-order v n a i t s k x) (from-order v n a i t s k x) whole
 
 pub tbs-reports : (p : Part) → IsRead p.bytes → Reports (tbs.to_be_signed p) (tbs_faults p)
 tbs-reports p read =
-    let f : CertFault = fault Shape p.at in
-    parts-reports (λ (ps : List (Result Part DerFault)). or_fault f (layout ps) >>= tbs.contents p) 0x30 p (faults_in f (layout_faults p.at) (layout (parts_of p)))
-    (λ is ok. in-reports f (layout (parts_of p)) (tbs.contents p) (layout_faults p.at)
-    (λ l e.
-    let row = behind-row (parts_of p) l (row-of 0x30 p read is ok) e in
-    contents-reports p l (extensions-reports p (tbs.after_unique_identifiers l.others) row)))
+    shape-reports layout tbs.contents layout_faults 0x30 p
+    (λ l is ok e.
+    let row = row-of 0x30 p read is ok in
+    let w = layout-sound row.at row.parts l row.each (ap layout (sym row.is) ∙ e) in
+    contents-reports l (extensions-reports l.extensions w.last))
 
 -- ---- the whole
 

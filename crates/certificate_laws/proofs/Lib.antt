@@ -11,4 +11,5 @@ pub mod Shapes
 pub mod Rows
 pub mod Faulty
 pub mod Lying
+pub mod Layouts
 pub mod EachPart

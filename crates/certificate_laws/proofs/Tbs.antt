@@ -2,6 +2,7 @@
 use Rattle.std.proofs.Common.{◌≡◌, ℕ, ◌+◌, ◌==◌, refl, sym, ap, ◌∙◌, subst, Bool, true, false, ℤ, List, [], ◌∷◌, ◌++◌, filter, length, Option, Some, None, Result, Ok, unwrap_or}
 use Rattle.std.specs.List.{AllByRecursion}
 use Rattle.mdoc_outside.specs.ResultSteps.{◌>>=◌, or_fault}
+use Rattle.mdoc_outside.specs.OptionSteps.{◌>>=◌ as ◌>>?◌}
 use Rattle.der_view.specs.declared.der_fault.DerFault.{DerFault}
 use Rattle.der_view.specs.Element.{IsElement}
 use Rattle.der_view.specs.Parts.{Part, body_part}
@@ -22,7 +23,7 @@ use Rattle.certificate_laws.specs.MadeOf.{HasTag, IsMadeOf, IsOptional}
 use Rattle.certificate_laws.proofs.Counts.{one-is}
 use Rattle.certificate_laws.proofs.Made.{IsRead, tag-of, with-tag, tag-sound, parts-each, parts-sound, shape-sound, parts-complete, shape-complete}
 use Rattle.certificate_laws.proofs.Parts.{version-sound, version-complete, algorithm-sound, algorithm-complete, validity-sound, validity-complete, key-sound, key-complete}
-use Rattle.certificate_laws.proofs.Steps.{stepped, or_fault-ok, both-ok, ok-same}
+use Rattle.certificate_laws.proofs.Steps.{stepped, chosen, both-ok, ok-same}
 use Rattle.certificate_laws.proofs.Usages.{extensions-sound, allows, extensions-complete, allowed}
 
 -- ---- what may follow the key
@@ -87,8 +88,8 @@ listed_in list = parts_in 0x30 list >>= with_extensions (Ok None)
 abbrev pub tagged_in : Part → Result (Option Bool) CertFault
 tagged_in last = of_shape one 0xa3 last >>= listed_in
 
-tagged-sound : (bytes : List ℕ) (last : Part) (said : Option Bool) → IsRead last.bytes → tagged_in last ≡ Ok said → AreExtensions (unwrap_or said false) last.bytes
-tagged-sound bytes last said read e =
+tagged-sound : (last : Part) (said : Option Bool) → IsRead last.bytes → tagged_in last ≡ Ok said → AreExtensions (unwrap_or said false) last.bytes
+tagged-sound last said read e =
     let a = stepped (of_shape one 0xa3 last) listed_in said e in
     let m = shape-sound one 0xa3 last a.value read a.before in
     let w = one-is m.at m.parts a.value m.is in
@@ -107,39 +108,48 @@ tagged-sound bytes last said read e =
       usage = allows (filter is_key_usage x.extensions) said x.usage;
     }
 
-may-sound : (p : Part) (at : ℕ) (parts : List (List ℕ)) (said : Option Bool) → AllByRecursion IsRead parts → tbs.extensions p (placed at parts) ≡ Ok said → MayHaveExtensions parts (unwrap_or said false)
-may-sound p at [] said each e = (let same : None ≡ said = cc in rw (sym same) refl)
-may-sound p at (part ∷ []) said each e = tagged-sound part (place at part) said each.0 e
-may-sound p at (part ∷ (other ∷ parts)) said each e = absurd (cc)
+abbrev pub last_of : Option Part → List (List ℕ)
+last_of None = []
+last_of (Some p) = p.bytes ∷ []
 
-record MayRead (p : Part) (at : ℕ) (parts : List (List ℕ)) (signs : Bool) : Type 0 where
+may-sound : (last : Option Part) (said : Option Bool) → AllByRecursion IsRead (last_of last) → tbs.extensions last ≡ Ok said → MayHaveExtensions (last_of last) (unwrap_or said false)
+may-sound None said each e = (let same : None ≡ said = cc in rw (sym same) refl)
+may-sound (Some last) said each e = tagged-sound last said each.0 e
+
+abbrev last_at : ℕ → List (List ℕ) → Option Part
+last_at at [] = None
+last_at at (part ∷ parts) = Some (place at part)
+
+record MayRead (at : ℕ) (parts : List (List ℕ)) (signs : Bool) : Type 0 where
   said : Option Bool
   is : unwrap_or said false ≡ signs
-  read : tbs.extensions p (placed at parts) ≡ Ok said
+  last : tbs.none_or_one (placed at parts) ≡ Some (last_at at parts)
+  read : tbs.extensions (last_at at parts) ≡ Ok said
 
-may-complete : (p : Part) (at : ℕ) (parts : List (List ℕ)) (signs : Bool) → MayHaveExtensions parts signs → MayRead p at parts signs
-may-complete p at [] signs e = record { said = None; is = sym e; read = refl }
-may-complete p at (part ∷ []) signs e =
+may-complete : (at : ℕ) (parts : List (List ℕ)) (signs : Bool) → MayHaveExtensions parts signs → MayRead at parts signs
+may-complete at [] signs e = record { said = None; is = sym e; last = refl; read = refl }
+may-complete at (part ∷ []) signs e =
     let a = allowed (filter is_key_usage e.extensions) signs e.usage in
     let list = after_head at 0xa3 (concatenated (e.list ∷ [])) in
     record {
       said = a.said;
       is = a.is;
+      last = refl;
       read = rw (shape-complete one 0xa3 at (e.list ∷ []) part e.explicit)
           (rw (parts-complete 0x30 list e.parts e.list e.whole)
           (extensions-complete e.parts e.extensions (after_head list 0x30 (concatenated e.parts)) None a.said e.each a.follows));
     }
-may-complete p at (part ∷ (other ∷ parts)) signs e = absurd e
+may-complete at (part ∷ (other ∷ parts)) signs e = absurd e
 
 may-tagged : (parts : List (List ℕ)) (signs : Bool) → MayHaveExtensions parts signs → AreExtensionsAt parts
 may-tagged [] signs e = tt
 may-tagged (part ∷ []) signs e = record { body = concatenated (e.list ∷ []); is = e.explicit.is }
 may-tagged (part ∷ (other ∷ parts)) signs e = absurd e
 
--- ---- the seven parts
+-- ---- the layout
 
-abbrev own_layout : ℕ → List ℕ → List ℕ → List ℕ → List ℕ → List ℕ → List ℕ → List ℕ → List (List ℕ) → Layout
-own_layout at a b c d e f g rest = record {
+abbrev own_layout : ℕ → List ℕ → List ℕ → List ℕ → List ℕ → List ℕ → List ℕ → List ℕ → Option Part → Layout
+own_layout at a b c d e f g last = record {
   version = place at a;
   serial = place (at + length a) b;
   algorithm = place (at + length a + length b) c;
@@ -147,30 +157,51 @@ own_layout at a b c d e f g rest = record {
   validity = place (at + length a + length b + length c + length d) e;
   subject = place (at + length a + length b + length c + length d + length e) f;
   key = place (at + length a + length b + length c + length d + length e + length f) g;
-  others = placed (at + length a + length b + length c + length d + length e + length f + length g) rest;
+  extensions = last;
 }
 
-pub record LayoutSound (parts : List (List ℕ)) (l : Layout) : Type 0 where
-  pub rest : List (List ℕ)
-  pub next : ℕ
-  pub are : parts ≡ l.version.bytes ∷ l.serial.bytes ∷ l.algorithm.bytes ∷ l.issuer.bytes ∷ l.validity.bytes ∷ l.subject.bytes ∷ l.key.bytes ∷ rest
-  pub others : l.others ≡ placed next rest
+-- the place behind seven parts
+abbrev behind : ℕ → List ℕ → List ℕ → List ℕ → List ℕ → List ℕ → List ℕ → List ℕ → ℕ
+behind at a b c d e f g = at + length a + length b + length c + length d + length e + length f + length g
 
-pub layout-sound : (at : ℕ) (parts : List (List ℕ)) (l : Layout) → layout (placed at parts) ≡ Some l → LayoutSound parts l
-layout-sound at [] l same = absurd (cc)
-layout-sound at (a ∷ []) l same = absurd (cc)
-layout-sound at (a ∷ (b ∷ [])) l same = absurd (cc)
-layout-sound at (a ∷ (b ∷ (c ∷ []))) l same = absurd (cc)
-layout-sound at (a ∷ (b ∷ (c ∷ (d ∷ [])))) l same = absurd (cc)
-layout-sound at (a ∷ (b ∷ (c ∷ (d ∷ (e ∷ []))))) l same = absurd (cc)
-layout-sound at (a ∷ (b ∷ (c ∷ (d ∷ (e ∷ (f ∷ [])))))) l same = absurd (cc)
-layout-sound at (a ∷ (b ∷ (c ∷ (d ∷ (e ∷ (f ∷ (g ∷ rest))))))) l same =
-    let own : own_layout at a b c d e f g rest ≡ l = (let s : Some (own_layout at a b c d e f g rest) ≡ Some l = same in cc) in
-    let whole : LayoutSound (a ∷ b ∷ c ∷ d ∷ e ∷ f ∷ g ∷ rest) (own_layout at a b c d e f g rest) = record {
-      rest = rest;
-      next = at + length a + length b + length c + length d + length e + length f + length g;
-      are = refl;
-      others = refl;
+none_or_one-is : (at : ℕ) (parts : List (List ℕ)) (last : Option Part) → tbs.none_or_one (placed at parts) ≡ Some last → parts ≡ last_of last
+none_or_one-is at [] last e = (let same : None ≡ last = cc in ap last_of same)
+none_or_one-is at (part ∷ []) last e = (let same : Some (place at part) ≡ last = cc in ap last_of same)
+none_or_one-is at (part ∷ (other ∷ parts)) last e = absurd (cc)
+
+pub record LayoutSound (parts : List (List ℕ)) (l : Layout) : Type 0 where
+  pub issuer_unique_id : List (List ℕ)
+  pub subject_unique_id : List (List ℕ)
+  pub are : parts ≡ l.version.bytes ∷ l.serial.bytes ∷ l.algorithm.bytes ∷ l.issuer.bytes ∷ l.validity.bytes ∷ l.subject.bytes ∷ l.key.bytes ∷ (issuer_unique_id ++ (subject_unique_id ++ last_of l.extensions))
+  pub issuer_id : IsOptional (HasTag 0x81) issuer_unique_id
+  pub subject_id : IsOptional (HasTag 0x82) subject_unique_id
+  pub last : AllByRecursion IsRead (last_of l.extensions)
+
+pub layout-sound : (at : ℕ) (parts : List (List ℕ)) (l : Layout) → AllByRecursion IsRead parts → layout (placed at parts) ≡ Some l → LayoutSound parts l
+layout-sound at [] l each same = absurd (cc)
+layout-sound at (a ∷ []) l each same = absurd (cc)
+layout-sound at (a ∷ (b ∷ [])) l each same = absurd (cc)
+layout-sound at (a ∷ (b ∷ (c ∷ []))) l each same = absurd (cc)
+layout-sound at (a ∷ (b ∷ (c ∷ (d ∷ [])))) l each same = absurd (cc)
+layout-sound at (a ∷ (b ∷ (c ∷ (d ∷ (e ∷ []))))) l each same = absurd (cc)
+layout-sound at (a ∷ (b ∷ (c ∷ (d ∷ (e ∷ (f ∷ [])))))) l each same = absurd (cc)
+layout-sound at (a ∷ (b ∷ (c ∷ (d ∷ (e ∷ (f ∷ (g ∷ rest))))))) l each same =
+    let make : Option Part → Layout = own_layout at a b c d e f g in
+    let one_id = optional-sound 0x81 (behind at a b c d e f g) rest each.1.1.1.1.1.1.1 in
+    let two_id = optional-sound 0x82 one_id.next one_id.rest one_id.each in
+    let left : tbs.after_unique_identifiers (placed (behind at a b c d e f g) rest) ≡ placed two_id.next two_id.rest = ap (after_optional 0x82) one_id.left ∙ two_id.left in
+    let found = chosen (tbs.none_or_one (tbs.after_unique_identifiers (placed (behind at a b c d e f g) rest))) (λ (last : Option Part). Some (make last)) l same in
+    let last : two_id.rest ≡ last_of found.value = none_or_one-is two_id.next two_id.rest found.value (ap tbs.none_or_one (sym left) ∙ found.before) in
+    let own : make found.value ≡ l = (let s : Some (make found.value) ≡ Some l = found.after in cc) in
+    let others : rest ≡ one_id.optional ++ (two_id.optional ++ last_of found.value) =
+    one_id.are ∙ ap (λ (x : List (List ℕ)). one_id.optional ++ x) two_id.are ∙ ap (λ (x : List (List ℕ)). one_id.optional ++ (two_id.optional ++ x)) last in
+    let whole : LayoutSound (a ∷ b ∷ c ∷ d ∷ e ∷ f ∷ g ∷ rest) (make found.value) = record {
+      issuer_unique_id = one_id.optional;
+      subject_unique_id = two_id.optional;
+      are = ap (λ (x : List (List ℕ)). a ∷ b ∷ c ∷ d ∷ e ∷ f ∷ g ∷ x) others;
+      issuer_id = one_id.tagged;
+      subject_id = two_id.tagged;
+      last = subst (AllByRecursion IsRead) last two_id.each;
     } in
     subst (LayoutSound (a ∷ b ∷ c ∷ d ∷ e ∷ f ∷ g ∷ rest)) own whole
 
@@ -187,43 +218,38 @@ has-sound tag p q read e =
 
 pub tbs-sound : (p : Part) (t : Tbs) → IsRead p.bytes → tbs.to_be_signed p ≡ Ok t → IsTbsCertificate p.bytes t
 tbs-sound p t read e =
-    let a = stepped (parts_in 0x30 p) (λ (ps : List (Result Part DerFault)). or_fault (fault Shape p.at) (layout ps) >>= tbs.contents p) t e in
-    let b = stepped (or_fault (fault Shape p.at) (layout a.value)) (tbs.contents p) t a.after in
-    let l : Layout = b.value in
-    let m = parts-sound 0x30 p a.value read a.before in
-    let w = layout-sound (body_part p).at m.parts l (ap layout (sym m.is) ∙ or_fault-ok (fault Shape p.at) (layout a.value) l b.before) in
-    let each = subst (AllByRecursion IsRead) w.are (parts-each 0x30 m.parts p.bytes m.whole read.are) in
-    let c = stepped (both (tbs.names l) (both (tbs.heading l) (tbs.values p l))) tbs_with t b.after in
-    let d = both-ok (tbs.names l) (both (tbs.heading l) (tbs.values p l)) c.value c.before in
+    let a = stepped (of_shape layout 0x30 p) tbs.contents t e in
+    let l : Layout = a.value in
+    let m = shape-sound layout 0x30 p l read a.before in
+    let w = layout-sound m.at m.parts l m.each m.is in
+    let each = subst (AllByRecursion IsRead) w.are m.each in
+    let c = stepped (both (tbs.names l) (both (tbs.heading l) (tbs.values l))) tbs_with t a.after in
+    let d = both-ok (tbs.names l) (both (tbs.heading l) (tbs.values l)) c.value c.before in
     let n = both-ok (tagged 0x30 l.issuer) (tagged 0x30 l.subject) c.value.0 d.first in
-    let h = both-ok (tbs.heading l) (tbs.values p l) c.value.1 d.second in
+    let h = both-ok (tbs.heading l) (tbs.values l) c.value.1 d.second in
     let k = both-ok (tbs.numbering l) (tbs.algorithm l.algorithm) c.value.1.0 h.first in
     let q = stepped (both (tbs.version l.version) (tagged 0x02 l.serial)) (λ (checked : Unit {0} × Part). Ok tt) c.value.1.0.0 k.first in
     let r = both-ok (tbs.version l.version) (tagged 0x02 l.serial) q.value q.before in
-    let behind = tbs.after_unique_identifiers l.others in
-    let v = both-ok (tbs.validity l.validity) (both (tbs.public_key l.key) (tbs.extensions p behind)) c.value.1.1 h.second in
-    let u = both-ok (tbs.public_key l.key) (tbs.extensions p behind) c.value.1.1.1 v.second in
-    let one_id = optional-sound 0x81 w.next w.rest each.1.1.1.1.1.1.1 in
-    let two_id = optional-sound 0x82 one_id.next one_id.rest one_id.each in
-    let left : behind ≡ placed two_id.next two_id.rest = ap tbs.after_unique_identifiers w.others ∙ ap (after_optional 0x82) one_id.left ∙ two_id.left in
-    let rest : w.rest ≡ one_id.optional ++ (two_id.optional ++ two_id.rest) = one_id.are ∙ ap (λ (x : List (List ℕ)). one_id.optional ++ x) two_id.are in
+    let v = both-ok (tbs.validity l.validity) (both (tbs.public_key l.key) (tbs.extensions l.extensions)) c.value.1.1 h.second in
+    let u = both-ok (tbs.public_key l.key) (tbs.extensions l.extensions) c.value.1.1.1 v.second in
+    let rest : List (List ℕ) = w.issuer_unique_id ++ (w.subject_unique_id ++ last_of l.extensions) in
     let issuer = has-sound 0x30 l.issuer c.value.0.0 each.1.1.1.0 n.first in
     let subject = has-sound 0x30 l.subject c.value.0.1 each.1.1.1.1.1.0 n.second in
     let serial = has-sound 0x02 l.serial q.value.1 each.1.0 r.second in
     let front : List ℕ → List ℕ → List (List ℕ) → List (List ℕ) = λ i s others. l.version.bytes ∷ l.serial.bytes ∷ l.algorithm.bytes ∷ i ∷ l.validity.bytes ∷ s ∷ l.key.bytes ∷ others in
-    let are : m.parts ≡ front c.value.0.0.bytes c.value.0.1.bytes (one_id.optional ++ (two_id.optional ++ two_id.rest)) =
-    w.are ∙ ap (front l.issuer.bytes l.subject.bytes) rest
-    ∙ ap (λ (i : List ℕ). front i l.subject.bytes (one_id.optional ++ (two_id.optional ++ two_id.rest))) issuer.1
-    ∙ ap (λ (s : List ℕ). front c.value.0.0.bytes s (one_id.optional ++ (two_id.optional ++ two_id.rest))) subject.1 in
+    let are : m.parts ≡ front c.value.0.0.bytes c.value.0.1.bytes rest =
+    w.are
+    ∙ ap (λ (i : List ℕ). front i l.subject.bytes rest) issuer.1
+    ∙ ap (λ (s : List ℕ). front c.value.0.0.bytes s rest) subject.1 in
     let own : IsTbsCertificate p.bytes (tbs.tbs_of c.value.0 c.value.1.1.0 c.value.1.1.1.0 c.value.1.1.1.1) = record {
       version = l.version.bytes;
       serial_number = l.serial.bytes;
       signature = l.algorithm.bytes;
       validity = l.validity.bytes;
       subject_public_key_info = l.key.bytes;
-      issuer_unique_id = one_id.optional;
-      subject_unique_id = two_id.optional;
-      extensions = two_id.rest;
+      issuer_unique_id = w.issuer_unique_id;
+      subject_unique_id = w.subject_unique_id;
+      extensions = last_of l.extensions;
       whole = subst (λ (parts : List (List ℕ)). IsMadeOf 0x30 parts p.bytes) are m.whole;
       version_3 = version-sound l.version each.0 r.first;
       integer = serial.0;
@@ -232,9 +258,9 @@ tbs-sound p t read e =
       times = validity-sound l.validity c.value.1.1.0 each.1.1.1.1.0 v.first;
       subject_name = subst (HasTag 0x30) subject.1 subject.0;
       public_key = key-sound l.key c.value.1.1.1.0 each.1.1.1.1.1.1.0 u.first;
-      issuer_id = one_id.tagged;
-      subject_id = two_id.tagged;
-      purposes = may-sound p two_id.next two_id.rest c.value.1.1.1.1 two_id.each (ap (tbs.extensions p) (sym left) ∙ u.second);
+      issuer_id = w.issuer_id;
+      subject_id = w.subject_id;
+      purposes = may-sound l.extensions c.value.1.1.1.1 w.last u.second;
     } in
     let same : tbs.tbs_of c.value.0 c.value.1.1.0 c.value.1.1.1.0 c.value.1.1.1.1 ≡ t = ok-same (tbs.tbs_of c.value.0 c.value.1.1.0 c.value.1.1.1.0 c.value.1.1.1.1) t c.after in
     subst (IsTbsCertificate p.bytes) same own
@@ -244,27 +270,28 @@ tbs-sound p t read e =
 tag-complete : (tag at : ℕ) (bytes : List ℕ) → HasTag tag bytes → (tag == tag) ≡ true → tagged tag (place at bytes) ≡ Ok (place at bytes)
 tag-complete tag at bytes has same = rw (tag-of bytes tag has.body has.is) (rw same refl)
 
-contents-is : (p : Part) (l : Layout) (issuer subject serial : Part) (times : ℤ × ℤ) (key : Point) (said : Option Bool) →
+contents-is : (l : Layout) (issuer subject serial : Part) (times : ℤ × ℤ) (key : Point) (said : Option Bool) →
     tagged 0x30 l.issuer ≡ Ok issuer → tagged 0x30 l.subject ≡ Ok subject → tbs.version l.version ≡ Ok tt → tagged 0x02 l.serial ≡ Ok serial →
     tbs.algorithm l.algorithm ≡ Ok tt → tbs.validity l.validity ≡ Ok times → tbs.public_key l.key ≡ Ok key →
-    tbs.extensions p (tbs.after_unique_identifiers l.others) ≡ Ok said → tbs.contents p l ≡ Ok (tbs.tbs_of (issuer, subject) times key said)
-contents-is p l issuer subject serial times key said i s v n a t k x =
+    tbs.extensions l.extensions ≡ Ok said → tbs.contents l ≡ Ok (tbs.tbs_of (issuer, subject) times key said)
+contents-is l issuer subject serial times key said i s v n a t k x =
     let names : tbs.names l ≡ Ok (issuer, subject) = rw (i, s) refl in
     let numbering : tbs.numbering l ≡ Ok tt = rw (v, n) refl in
     let heading : tbs.heading l ≡ Ok (tt, tt) = rw (numbering, a) refl in
-    let values : tbs.values p l ≡ Ok (times, (key, said)) = rw (t, k, x) refl in
+    let values : tbs.values l ≡ Ok (times, (key, said)) = rw (t, k, x) refl in
     rw (names, heading, values) refl
 
 pub tbs-complete : (at : ℕ) (bytes : List ℕ) (t : Tbs) → IsTbsCertificate bytes t → tbs.to_be_signed (place at bytes) ≡ Ok t
 tbs-complete at bytes t is =
-    let p : Part = place at bytes in
     let rest = is.issuer_unique_id ++ (is.subject_unique_id ++ is.extensions) in
     let parts = is.version ∷ is.serial_number ∷ is.signature ∷ t.issuer ∷ is.validity ∷ t.subject ∷ is.subject_public_key_info ∷ rest in
     let first = after_head at 0x30 (concatenated parts) in
-    let l = own_layout first is.version is.serial_number is.signature t.issuer is.validity t.subject is.subject_public_key_info rest in
-    let behind = unique-left (first + length is.version + length is.serial_number + length is.signature + length t.issuer + length is.validity + length t.subject + length is.subject_public_key_info) is.issuer_unique_id is.subject_unique_id is.extensions is.issuer_id is.subject_id (may-tagged is.extensions t.signs_documents is.purposes) in
-    let x = may-complete p behind.0 is.extensions t.signs_documents is.purposes in
-    let c = contents-is p l l.issuer l.subject l.serial (t.not_before, t.not_after) t.key x.said
+    let after = unique-left (behind first is.version is.serial_number is.signature t.issuer is.validity t.subject is.subject_public_key_info) is.issuer_unique_id is.subject_unique_id is.extensions is.issuer_id is.subject_id (may-tagged is.extensions t.signs_documents is.purposes) in
+    let x = may-complete after.0 is.extensions t.signs_documents is.purposes in
+    let make : Option Part → Layout = own_layout first is.version is.serial_number is.signature t.issuer is.validity t.subject is.subject_public_key_info in
+    let l = make (last_at after.0 is.extensions) in
+    let laid : layout (placed first parts) ≡ Some l = ap (λ (o : Option (Option Part)). o >>? λ (last : Option Part). Some (make last)) (ap tbs.none_or_one after.1 ∙ x.last) in
+    let c = contents-is l l.issuer l.subject l.serial (t.not_before, t.not_after) t.key x.said
     (tag-complete 0x30 l.issuer.at t.issuer is.issuer_name refl)
     (tag-complete 0x30 l.subject.at t.subject is.subject_name refl)
     (version-complete l.version.at is.version is.version_3)
@@ -272,7 +299,7 @@ tbs-complete at bytes t is =
     (algorithm-complete l.algorithm.at is.signature is.algorithm)
     (validity-complete l.validity.at is.validity t.not_before t.not_after is.times)
     (key-complete l.key.at is.subject_public_key_info t.key is.public_key)
-    (ap (tbs.extensions p) behind.1 ∙ x.read) in
-    let make : Bool → Tbs = λ signs. record { issuer = t.issuer; subject = t.subject; not_before = t.not_before; not_after = t.not_after; key = t.key; signs_documents = signs } in
-    ap (λ (r : Result (List (Result Part DerFault)) CertFault). r >>= λ (ps : List (Result Part DerFault)). or_fault (fault Shape at) (layout ps) >>= tbs.contents p) (parts-complete 0x30 at parts bytes is.whole)
-    ∙ c ∙ ap (λ (signs : Bool). Ok (make signs)) x.is
+    x.read in
+    let with_purposes : Bool → Tbs = λ signs. record { issuer = t.issuer; subject = t.subject; not_before = t.not_before; not_after = t.not_after; key = t.key; signs_documents = signs } in
+    ap (λ (r : Result Layout CertFault). r >>= tbs.contents) (shape-complete layout 0x30 at parts bytes is.whole ∙ ap (or_fault (fault Shape at)) laid)
+    ∙ c ∙ ap (λ (signs : Bool). Ok (with_purposes signs)) x.is

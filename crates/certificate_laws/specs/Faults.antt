@@ -12,7 +12,7 @@ use Rattle.cert_view.specs.Extensions.{extended_key_usage, named_value, said_by_
 use Rattle.cert_view.specs.Faults.{fault, is_before}
 use Rattle.cert_view.specs.Shapes.{has_tag, one, two, three}
 use Rattle.cert_view.specs.Signatures.{signature_of}
-use Rattle.cert_view.specs.Tbs.{ecdsa_with_sha256, one_or_two, point_under, after_unique_identifiers, Layout, layout}
+use Rattle.cert_view.specs.Tbs.{ecdsa_with_sha256, one_or_two, point_under, Layout, layout}
 use Rattle.cert_view.specs.Times.{utc_time, generalized_time}
 
 -- ---- elements and their parts
@@ -134,22 +134,20 @@ in_list p = shape_faults as_list list_faults 0x30 p
 abbrev pub tagged_faults : Part → List CertFault
 tagged_faults p = shape_faults one in_list 0xa3 p
 
--- What follows the key and the unique identifiers: nothing, or the extensions; more is a fault of the
--- to-be-signed part, beside what is wrong with its other parts.
-abbrev pub extensions_faults : ℕ → List (Result Part DerFault) → List CertFault
-extensions_faults at [] = []
-extensions_faults at (p ∷ ps) = faults_in (fault checks.Shape at) tagged_faults (one (p ∷ ps))
+abbrev pub extensions_faults : Option Part → List CertFault
+extensions_faults None = []
+extensions_faults (Some last) = tagged_faults last
 
 -- ---- the whole
 
-abbrev pub layout_faults : ℕ → Layout → List CertFault
-layout_faults at l =
+abbrev pub layout_faults : Layout → List CertFault
+layout_faults l =
     version_faults l.version ++ tag_faults 0x02 l.serial ++ algorithm_faults l.algorithm ++ tag_faults 0x30 l.issuer
     ++ validity_faults l.validity ++ tag_faults 0x30 l.subject ++ key_faults l.key
-    ++ extensions_faults at (after_unique_identifiers l.others)
+    ++ extensions_faults l.extensions
 
 abbrev pub tbs_faults : Part → List CertFault
-tbs_faults p = shape_faults layout (layout_faults p.at) 0x30 p
+tbs_faults p = shape_faults layout layout_faults 0x30 p
 
 abbrev pub three_faults : Part × Part × Part → List CertFault
 three_faults x = tbs_faults x.0 ++ algorithm_faults x.1 ++ signature_faults x.2

@@ -1,15 +1,20 @@
 //! Laws of certificates (RFC 5280, 4.1). Each is the contract of a function that does nothing.
 
-ghost use Rattle.std.specs.Prelude.{◌≡◌, ◌↔◌, ℕ, ℤ, List, [], ◌∷◌, Ok, Err, Contains};
+ghost use Rattle.std.specs.Prelude.{◌≡◌, ◌↔◌, ℕ, ℤ, true, List, [], ◌∷◌, Some, Result, Ok, Err, Contains};
 ghost use Rattle.key_device.specs.declared.point.Point.{Point};
+ghost use Rattle.der_view.specs.declared.der_fault.DerFault.{DerFault};
 ghost use Rattle.der_view.specs.Element.{AreBytes, IsElement, element};
 ghost use Rattle.der_view.specs.Parts.{Part, parts_of};
 ghost use Rattle.cert_view.specs.Certificate.{Fields, certificate};
-ghost use Rattle.cert_view.specs.Tbs.{Tbs};
+ghost use Rattle.cert_view.specs.Faults.{fault};
+ghost use Rattle.cert_view.specs.Shapes.{has_tag, all_read};
+ghost use Rattle.cert_view.specs.Tbs.{Tbs, Layout, layout, to_be_signed};
+ghost use Rattle.cert_view.specs.declared.cert_check.CertCheck.TheVariants.{Shape};
 ghost use Rattle.cert_view.specs.declared.cert_fault.CertFault.{CertFault};
 ghost use Rattle.certificate_laws.specs.Extensions.{Extension, IsFormed};
 ghost use Rattle.certificate_laws.specs.Faults.{IsFirst, algorithm_faults, certificate_faults, extension_faults, key_faults, signature_faults, tbs_faults, validity_faults, version_faults};
 ghost use Rattle.certificate_laws.specs.IsCertificate.{IsCertificate, IsEcdsaWithSha256, IsPublicKeyInfo, IsSignatureValue, IsSomeCertificate, IsTbsCertificate, IsValidity};
+ghost use Rattle.certificate_laws.specs.IsLayout.{IsLayout};
 ghost use Rattle.certificate_laws.specs.MadeOf.{IsMadeOf};
 ghost use Rattle.certificate_laws.specs.PartsLie.{FieldsLie, LiesIn};
 
@@ -17,6 +22,15 @@ ghost use Rattle.certificate_laws.specs.PartsLie.{FieldsLie, LiesIn};
 /// 5280, 4.1).
 pub fn is_certificate()
     ensures { (bytes : List ℕ) (fields : Fields) → AreBytes bytes → (certificate bytes ≡ Ok fields) ↔ IsCertificate bytes fields }
+{}
+
+/// The parts of a to-be-signed part give a layout exactly where they stand in the standard's order (RFC
+/// 5280, 4.1.2), and the layout is that order's. Where they all read and are in no such order, be they too
+/// few or too many, this is the one thing that is wrong with it, and it is reported.
+pub fn is_layout()
+    ensures read { (parts : List (Result Part DerFault)) (l : Layout) → (layout parts ≡ Some l) ↔ IsLayout parts l }
+    ensures faults { (p : Part) → has_tag 0x30 p ≡ true → all_read (parts_of p) ≡ Ok tt → ((l : Layout) → IsLayout (parts_of p) l → ⊥) → tbs_faults p ≡ fault Shape p.at ∷ [] }
+    ensures reported { (p : Part) → has_tag 0x30 p ≡ true → all_read (parts_of p) ≡ Ok tt → ((l : Layout) → IsLayout (parts_of p) l → ⊥) → to_be_signed p ≡ Err (fault Shape p.at) }
 {}
 
 /// The fault that is reported is the first of all that is wrong with the bytes: one of them, and none is

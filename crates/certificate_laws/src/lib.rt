@@ -6,5 +6,6 @@
 mod laws;
 
 pub use laws::{
-    faultless_is_certificate, faultless_parts, fields_lie, first_fault, is_certificate, parts_lie,
+    faultless_is_certificate, faultless_parts, fields_lie, first_fault, is_certificate, is_layout,
+    parts_lie,
 };
