@@ -1,6 +1,7 @@
 pub mod AscendingNumbers
 pub mod DigestLists
 pub mod GroupedBytes
+pub mod IndexedDigests
 pub mod MadeFromItems
 pub mod ValidityBytes
 pub mod WrittenDates

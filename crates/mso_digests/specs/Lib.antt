@@ -2,6 +2,7 @@ pub mod Digests
 pub mod Nested
 pub mod Object
 pub mod MsoView
+pub mod Indexed
 pub mod Written
 pub mod WrittenSteps
 pub mod WrittenFacts

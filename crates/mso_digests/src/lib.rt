@@ -9,6 +9,7 @@ mod contents;
 mod digests;
 mod doubled;
 mod grouped;
+mod index;
 mod laws;
 mod mso;
 mod mso_draft;
@@ -17,6 +18,7 @@ mod sharing;
 mod validity;
 mod written;
 
+pub use index::DigestIndex;
 pub use laws::object_is_made_from_its_items;
 pub use mso::Mso;
 pub use mso_draft::MsoDraft;

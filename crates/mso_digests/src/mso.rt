@@ -1,18 +1,21 @@
 //! The security object.
 
-ghost use Rattle.std.specs.Prelude.{◌≡◌, option_map};
+ghost use Rattle.std.specs.Prelude.{◌≡◌, IfOk, option_map};
 ghost use Rattle.cbor_view.specs.Reading.{Gives};
 ghost use Rattle.cbor_view.specs.View.{part};
 ghost use Rattle.mso_digests.specs.Digests.{digest_at};
+ghost use Rattle.mso_digests.specs.Indexed.{IsIndexOf};
 ghost use Rattle.mso_digests.specs.MsoView.{content, contents, said};
 ghost use Rattle.mso_digests.specs.Object.{is_sha256, is_version, object, object_of_map, object_with};
 
 use crate::MsoFault;
 use crate::contents::{Contents, distinct_keys};
 use crate::digests::{digest_in, have_length};
+use crate::index::DigestIndex;
 use cbor_maps::{MapFault, NamedMap};
 use cbor_view::View;
-use mdoc_outside::KeyName;
+use mdoc_outside::{KeyName, Memory};
+use std::alloc::Global;
 
 /// The tag of a string of bytes that holds encoded CBOR (RFC 8949, section 3.4.5.1).
 const ENCODED: u64 = 24;
@@ -121,6 +124,13 @@ impl<'a> Mso<'a> {
         ensures { option_map content result ≡ digest_at ns.now id (said self.now).digests }
     {
         digest_in(self.digests, ns, id)
+    }
+
+    /// The digests by their namespaces and digest identifiers, for those who look for many of them.
+    pub fn index(&self, alloc: Global) -> Result<DigestIndex<'a>, Memory>
+        ensures { IfOk result (λ index. IsIndexOf index (said self.now).digests) }
+    {
+        DigestIndex::of(alloc, self.digests)
     }
 
     /// The device key (COSE_Key), unread.

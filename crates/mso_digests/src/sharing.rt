@@ -1,6 +1,6 @@
 //! What may be handed to another thread and shared with it.
 
-use crate::{Mso, MsoFault};
+use crate::{DigestIndex, Mso, MsoFault};
 
 fn is_send<T: Send>() {}
 
@@ -10,6 +10,8 @@ fn is_sync<T: Sync>() {}
 pub fn types_are_send_and_sync() {
     is_send::<Mso<'static>>();
     is_sync::<Mso<'static>>();
+    is_send::<DigestIndex<'static>>();
+    is_sync::<DigestIndex<'static>>();
     is_send::<MsoFault>();
     is_sync::<MsoFault>();
 }
