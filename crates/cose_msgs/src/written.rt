@@ -65,6 +65,22 @@ fn put_payload(out: &mut Build, payload: Option<&[u8]>) -> Result<(), Memory>
     }
 }
 
+/// Room for the heads, the protected map and the signature of a COSE_Sign1.
+const FIXED_ROOM: usize = 84;
+
+/// Room for a COSE_Sign1.
+fn sign1_room(unprotected: &Octets, payload: Option<&[u8]>) -> usize {
+    let content = match payload {
+        Some(bytes) => bytes.len(),
+        None => 0,
+    };
+    unprotected
+        .as_slice()
+        .len()
+        .saturating_add(content)
+        .saturating_add(FIXED_ROOM)
+}
+
 /// A signature of one signer with ES256, untagged (COSE_Sign1; RFC 9052, section 4.2): the chain is one
 /// certificate, and a payload that isn't given is detached.
 #[tactic(auto, using(crate::proofs::FourParts::four_parts), unfolding(crate::specs::Written::sign1_bytes, crate::specs::Written::es256, cbor_maps::specs::Labels::label_bytes, cbor_maps::specs::Writing::map_head))]
@@ -78,7 +94,7 @@ pub fn write_sign1(
     ensures read { IfOk result (λ b. IsReadAs sign1 b (record { protected = es256; chain = option_map content chain.entry; payload = option_map content payload.entry; signature = signature.now })) }
 {
     let unprotected = write_chain(alloc, chain)?;
-    let mut out = Build::new(alloc);
+    let mut out = Build::with_room(alloc, sign1_room(&unprotected, payload))?;
     out.array(4)?;
     out.bytes(&PROTECTED_ES256)?;
     out.append(unprotected.as_slice())?;
