@@ -166,6 +166,13 @@ groups-one pairs ns has =
     filter-map (is_of_namespace ns) (of_namespace pairs) (firsts (map (λ (pair : List ℕ × List ℕ). pair.0) pairs))
     ∙ ap (map (of_namespace pairs)) (firsts-one ns (map (λ (pair : List ℕ × List ℕ). pair.0) pairs) has)
 
+texts-none : (ns : List ℕ) (pairs : List (List ℕ × List ℕ)) → has_text ns (map (λ (pair : List ℕ × List ℕ). pair.0) pairs) ≡ false →
+    (of_namespace pairs ns).1 ≡ []
+texts-none ns [] none = refl
+texts-none ns (pair ∷ pairs) none =
+    let parts = or_parts (bytes_eq pair.0 ns) (has_text ns (map (λ (p : List ℕ × List ℕ). p.0) pairs)) none in
+    rw parts.0 (texts-none ns pairs parts.1)
+
 -- what stands once among the texts of its namespace stands once in the groups
 once : (pairs : List (List ℕ × List ℕ)) (ns text : List ℕ) → count_of_text text (of_namespace pairs ns).1 ≡ 1 → StandsOnce (grouped pairs) ns text
 once pairs ns text e = record {
