@@ -1,1 +1,3 @@
 pub mod DigestLength
+pub mod NameSets
+pub mod VerdictSteps

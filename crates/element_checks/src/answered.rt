@@ -1,38 +1,14 @@
 //! What was asked for and isn't answered.
 
 ghost use Rattle.std.specs.Prelude.{◌≡◌, ◌++◌, IfOk, OnOk, filter, not};
-ghost use Rattle.std.specs.List.{list_any};
-ghost use Rattle.verdict_model.specs.Verdict.{accepts, is_answered, unanswered, wanted_in, wanted_of};
+ghost use Rattle.element_checks.specs.ElementNames.{has_element};
+ghost use Rattle.verdict_model.specs.Verdict.{unanswered, wanted_in, wanted_of};
 
-use crate::accepted::has_accepted;
+use crate::accepted::AcceptedElements;
 use doc_request::{DocDraft, RequestDraft, WishDraft};
 use mdoc_outside::{Memory, Octets, Rows};
 use std::alloc::Global;
 use verdict_model::{DocVerdict, Named};
-
-/// Whether a document is of that type, and accepts that element.
-fn accepts(document: &DocVerdict, doc_type: &Octets, wish: &WishDraft) -> bool
-    ensures { result ≡ accepts (wanted_of doc_type.now wish.now) document.now }
-{
-    document.doc_type.as_slice() == doc_type.as_slice()
-        && has_accepted(
-            document.elements.as_slice(),
-            wish.ns.as_slice(),
-            wish.name.as_slice(),
-        )
-}
-
-/// Whether one of the documents accepts that element.
-fn is_answered(documents: &[DocVerdict], doc_type: &Octets, wish: &WishDraft) -> bool
-    ensures { result ≡ is_answered documents.now (wanted_of doc_type.now wish.now) }
-{
-    for document in documents {
-        if accepts(document, doc_type, wish) {
-            return true;
-        }
-    }
-    false
-}
 
 /// The names of an element that was asked for.
 fn wanted_of(alloc: Global, doc_type: &Octets, wish: &WishDraft) -> Result<Named, Memory>
@@ -48,13 +24,14 @@ fn wanted_of(alloc: Global, doc_type: &Octets, wish: &WishDraft) -> Result<Named
 fn put_unanswered(
     alloc: Global,
     asked: &DocDraft,
-    documents: &[DocVerdict],
+    answered: &AcceptedElements<'_>,
     missing: &mut Vec<Named>,
 ) -> Result<(), Memory>
-    ensures { OnOk result (missing.new.items ≡ missing.old.items ++ filter (λ element. not (is_answered documents.now element)) (wanted_in asked.now)) }
+    ensures { OnOk result (missing.new.items ≡ missing.old.items ++ filter (λ element. not (has_element answered.now element)) (wanted_in asked.now)) }
 {
     for wish in asked.wishes.as_slice() {
-        if !is_answered(documents, &asked.doc_type, wish) {
+        let (doc_type, ns, name) = (&asked.doc_type, &wish.ns, &wish.name);
+        if !answered.contains(doc_type.as_slice(), ns.as_slice(), name.as_slice()) {
             let named = wanted_of(alloc, &asked.doc_type, wish)?;
             missing.push(named)?;
         }
@@ -70,9 +47,10 @@ pub fn unanswered(
 ) -> Result<Rows<Named>, Memory>
     ensures { IfOk result (λ missing. missing ≡ unanswered request.now documents.now) }
 {
+    let answered = AcceptedElements::of(alloc, documents)?;
     let mut missing = Vec::new(alloc);
     for asked in request.documents.as_slice() {
-        put_unanswered(alloc, asked, documents, &mut missing)?;
+        put_unanswered(alloc, asked, &answered, &mut missing)?;
     }
     Ok(Rows::from_vec(missing))
 }

@@ -1,37 +1,34 @@
 //! The checks of an element, in their order.
 
-ghost use Rattle.std.specs.Prelude.{◌≡◌, true};
+ghost use Rattle.std.specs.Prelude.{◌≡◌};
 ghost use Rattle.issuer_items.specs.ItemView.{fields, raw_of};
-ghost use Rattle.mso_digests.specs.Digests.{have_length};
-ghost use Rattle.mso_digests.specs.MsoView.{said};
-ghost use Rattle.verdict_model.specs.Elements.{check_of};
+ghost use Rattle.element_checks.specs.FirstCheck.{HaveLength, first_check};
 
-use crate::accepted::has_accepted;
 use crate::digest::digest_check;
-use crate::requested::is_requested;
-use doc_request::RequestDraft;
+use crate::element_names::ElementNames;
 use issuer_items::Item;
-use mso_digests::Mso;
-use verdict_model::{ElementCheck, ElementVerdict};
+use mso_digests::DigestIndex;
+use verdict_model::ElementCheck;
 
-/// The first check of an item that fails, after the verdicts on the elements before it.
+/// The first check of an item that fails: by the digests of its object, the elements that are asked for, and those that are accepted
+/// already.
 pub(crate) fn first_check(
-    request: &RequestDraft,
-    object: &Mso<'_>,
-    before: &[ElementVerdict],
+    digests: &DigestIndex<'_>,
+    requested: &ElementNames<'_>,
+    accepted: &ElementNames<'_>,
     ns: &str,
     item: &Item<'_>,
 ) -> Option<ElementCheck>
-    requires { have_length (said object.now).digests ≡ true }
-    ensures { result ≡ check_of request.now (said object.now) before.now ns.now (raw_of item.now) (fields item.now) }
+    requires { HaveLength digests.now }
+    ensures { result ≡ first_check digests.now requested.now accepted.now ns.now (raw_of item.now) (fields item.now) }
 {
-    if let Some(check) = digest_check(object, ns, item) {
+    if let Some(check) = digest_check(digests, ns, item) {
         return Some(check);
     }
-    if has_accepted(before, ns.as_bytes(), item.name().as_bytes()) {
+    if accepted.contains(ns.as_bytes(), item.name().as_bytes()) {
         return Some(ElementCheck::Repeated);
     }
-    if !is_requested(request, object.doc_type(), ns, item.name()) {
+    if !requested.contains(ns.as_bytes(), item.name().as_bytes()) {
         return Some(ElementCheck::NotRequested);
     }
     None

@@ -9,6 +9,7 @@ mod accepted;
 mod answered;
 mod device_signed;
 mod digest;
+mod element_names;
 mod elements;
 mod first_check;
 mod requested;

@@ -1,45 +1,58 @@
 //! What a request asks for.
 
-ghost use Rattle.std.specs.Prelude.{◌≡◌};
+ghost use Rattle.std.specs.Prelude.{◌≡◌, ◌||◌, ℕ, List, IfOk, OnOk};
 ghost use Rattle.std.specs.List.{list_any};
+ghost use Rattle.element_checks.specs.ElementNames.{has_name};
 ghost use Rattle.verdict_model.specs.Elements.{is_requested, is_wish, wants};
 
+use crate::element_names::ElementNames;
 use doc_request::{DocDraft, RequestDraft, WishDraft};
+use mdoc_outside::Memory;
+use std::alloc::Global;
 
-/// Whether a wish is for that element.
-fn is_wish(wish: &WishDraft, ns: &str, name: &str) -> bool
-    ensures { result ≡ is_wish ns.now name.now wish.now }
-{
-    wish.ns.as_slice() == ns.as_bytes() && wish.name.as_slice() == name.as_bytes()
-}
-
-/// Whether one of the wishes is for that element.
-fn has_wish(wishes: &[WishDraft], ns: &str, name: &str) -> bool
-    ensures { result ≡ list_any (is_wish ns.now name.now) wishes.now }
+/// Adds the elements of wishes.
+#[tactic(auto, using(crate::proofs::NameSets::joined, crate::proofs::NameSets::or_none))]
+fn add_wishes<'a>(
+    alloc: Global,
+    wishes: &'a [WishDraft],
+    names: &mut ElementNames<'a>,
+) -> Result<(), Memory>
+    ensures { OnOk result ((ns : List ℕ) (name : List ℕ) → has_name names.new ns name ≡ (has_name names.old ns name || list_any (is_wish ns name) wishes.now)) }
 {
     for wish in wishes {
-        if is_wish(wish, ns, name) {
-            return true;
-        }
+        names.add(alloc, wish.ns.as_slice(), wish.name.as_slice())?;
     }
-    false
+    Ok(())
 }
 
-/// Whether that document is asked for with that element.
-fn wants(asked: &DocDraft, doc_type: &str, ns: &str, name: &str) -> bool
-    ensures { result ≡ wants doc_type.now ns.now name.now asked.now }
+/// Adds the elements that are asked for of a document, where it is of that type.
+#[tactic(auto, using(crate::proofs::NameSets::or_none))]
+fn add_asked<'a>(
+    alloc: Global,
+    asked: &'a DocDraft,
+    doc_type: &str,
+    names: &mut ElementNames<'a>,
+) -> Result<(), Memory>
+    ensures { OnOk result ((ns : List ℕ) (name : List ℕ) → has_name names.new ns name ≡ (has_name names.old ns name || wants doc_type.now ns name asked.now)) }
 {
-    asked.doc_type.as_slice() == doc_type.as_bytes() && has_wish(asked.wishes.as_slice(), ns, name)
+    if asked.doc_type.as_slice() == doc_type.as_bytes() {
+        add_wishes(alloc, asked.wishes.as_slice(), names)?;
+    }
+    Ok(())
 }
 
-/// Whether a request asks for that element of a document of that type.
-pub(crate) fn is_requested(request: &RequestDraft, doc_type: &str, ns: &str, name: &str) -> bool
-    ensures { result ≡ is_requested request.now doc_type.now ns.now name.now }
+/// The elements that a request asks for of a document of that type.
+#[tactic(auto, using(crate::proofs::NameSets::joined, crate::proofs::NameSets::or_none))]
+pub(crate) fn requested_elements<'a>(
+    alloc: Global,
+    request: &'a RequestDraft,
+    doc_type: &str,
+) -> Result<ElementNames<'a>, Memory>
+    ensures { IfOk result (λ names. (ns : List ℕ) (name : List ℕ) → has_name names ns name ≡ is_requested request.now doc_type.now ns name) }
 {
+    let mut names = ElementNames::new(alloc);
     for asked in request.documents.as_slice() {
-        if wants(asked, doc_type, ns, name) {
-            return true;
-        }
+        add_asked(alloc, asked, doc_type, &mut names)?;
     }
-    false
+    Ok(names)
 }

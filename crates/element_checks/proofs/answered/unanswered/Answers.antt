@@ -5,6 +5,8 @@ use Rattle.std.proofs.lemmas.List.Elements.{filter-append}
 use Rattle.doc_request.specs.declared.doc_draft.DocDraft.{DocDraft}
 use Rattle.verdict_model.specs.Verdict.{is_answered, wanted_in}
 use Rattle.verdict_model.specs.declared.named.Named.{Named}
+use Rattle.element_checks.specs.ElementNames.{has_element}
+use Rattle.element_checks.proofs.NameSets.{same_filter}
 use Rattle.element_checks.proofs.answered.unanswered.Goals as goal
 
 -- one document more
@@ -32,4 +34,7 @@ loop-asked-preserved c =
     c.asked-item.is ∙ get_or_default c.as_slice-asked-items.result.now c.loop-asked.asked-index _ _ within in
     step (λ (element : Named). not (is_answered c.args.documents.now element)) c.args.request.now.documents c.loop-asked.asked-index c.asked-item.result
     c.loop-asked.missing.items c.put_unanswered.new.missing.items _ (rw same at within) (rw same at is)
-    c.loop-asked.invariant c.in_ok-put_unanswered.ensures
+    c.loop-asked.invariant
+    (c.in_ok-put_unanswered.ensures ∙ ap (λ (own : List Named). c.loop-asked.missing.items ++ own)
+    (same_filter (λ (element : Named). not (has_element c.in_ok-answered.answered element)) (λ (element : Named). not (is_answered c.args.documents.now element))
+    (λ element. ap not (c.in_ok-answered.ensures element)) (wanted_in c.asked-item.result)))

@@ -2,12 +2,15 @@ use Rattle.std.proofs.Common.{◌≡◌, ◌++◌, []}
 use Rattle.doc_response.specs.ResponseItems.{items_left}
 use Rattle.mso_digests.specs.MsoView.{said}
 use Rattle.verdict_model.specs.Elements.{elements_after}
+use Rattle.element_checks.specs.FirstCheck.{HasAccepted}
 use Rattle.element_checks.proofs.elements.element_verdicts.Given as goal
 
--- the verdicts so far, and those on the elements that are left, are all
+-- the verdicts so far, and those on the elements that are left, are all, and the accepted elements are those so far
 abbrev pub invariant-loop-ns : goal.invariant-loop-ns
-invariant-loop-ns l =
-    (goal.iterator-loop-ns).can_next l.ns-iterator ×
-    (goal.iterator-loop-ns).is_finite l.ns-iterator ×
-    (l.verdicts.items ++ elements_after l.request (said l.object) l.verdicts.items (items_left l.ns-iterator)
-    ≡ elements_after l.request (said l.object) [] (items_left l.fn.items))
+invariant-loop-ns l = record {
+  next : (goal.iterator-loop-ns).can_next l.ns-iterator;
+  finite : (goal.iterator-loop-ns).is_finite l.ns-iterator;
+  verdicts : l.verdicts.items ++ elements_after l.request (said l.object) l.verdicts.items (items_left l.ns-iterator)
+      ≡ elements_after l.request (said l.object) [] (items_left l.fn.items);
+  accepted : HasAccepted l.accepted l.verdicts.items;
+}
