@@ -1,2 +1,3 @@
 pub mod CopyLemmas
+mod DigestLength
 pub mod DocumentLemmas

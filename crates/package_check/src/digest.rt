@@ -13,7 +13,7 @@ use sha2::{Digest, Sha256};
 use verdict_model::ElementCheck;
 
 /// The digest that the object has under that namespace and digest identifier.
-#[tactic(auto, using(element_checks::proofs::DigestLength::digest_length))]
+#[tactic(auto, using(crate::proofs::DigestLength::digest_length))]
 fn kept_digest<'a>(object: &Mso<'a>, ns: &str, id: u64) -> Option<&'a [u8; 32]>
     requires { have_length (said object.now).digests ≡ true }
     ensures { option_map (λ digest. digest.now) result ≡ digest_at ns.now id (said object.now).digests }
