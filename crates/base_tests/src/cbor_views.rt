@@ -309,7 +309,7 @@ fn finds_entries(rt: HostRuntime) {
     }
 }
 
-/// The span of an item, in front of its bytes.
+/// The span of an item, before its bytes.
 type Span = (usize, usize);
 
 /// An array, a number from 0, and the span of the item of that number, if there is one.

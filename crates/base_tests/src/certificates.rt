@@ -352,7 +352,7 @@ fn is_within(bytes: &[u8]) -> bool {
     }
 }
 
-/// Whether what stands in front of a place is no certificate, with a fault within it.
+/// Whether what stands before a place is no certificate, with a fault within it.
 fn is_cut_at(bytes: &[u8], place: usize) -> bool {
     match bytes.get(..place) {
         Some(cut) => Cert::read(cut).is_err() && is_within(cut),

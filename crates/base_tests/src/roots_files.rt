@@ -5,7 +5,7 @@ use cert_view::{Roots, RootsFault};
 use std::alloc::Global;
 use std::test::*;
 
-/// What stands in front of the root's digits and after them, and the fault of that file, if it
+/// What stands before the root's digits and after them, and the fault of that file, if it
 /// has one.
 const FILES: [(&[u8], &[u8], Option<RootsFault>); 19] = [
     (b"root issuer ", b"", None),

@@ -43,7 +43,7 @@ ending_with rest Start = Open
 ending_with rest Stop = Peer
 ending_with rest (Broken fault) = Bad fault
 
--- The fragments in front of the first one that ends the list, and how it ends there.
+-- The fragments before the first one that ends the list, and how it ends there.
 pub record Front : Type 0 where
   pub fragments : List Fragment
   pub ending : Ending

@@ -11,7 +11,7 @@ use Rattle.cbor_view.specs.declared.heads.Head.TheVariants as heads
 use Rattle.cbor_view.specs.declared.stop.Stop.{Stop}
 use Rattle.cbor_view.specs.Label.{Label, values_of, entries_or_none}
 use Rattle.cbor_view.specs.Opening.{EndsWith}
-use Rattle.cbor_view.specs.Parts.{Part, LiesIn, BothLieIn, tree_in, parts_at, entries_at, body_of, array_behind, map_behind, tag_behind, items_in, pairs_in, tag_in, entry_in, bytes_in, text_in}
+use Rattle.cbor_view.specs.Parts.{Part, LiesIn, BothLieIn, tree_in, parts_at, entries_at, body_of, array_after, map_after, tag_after, items_in, pairs_in, tag_in, entry_in, bytes_in, text_in}
 use Rattle.cbor_view.specs.Reading.{◌>>=◌, endless, number_at, argument_at, head_with, kind_of, head_at, Reader, stop, string_at, text_at, items_at, pairs_at, behind, behind_head, inner, reads, tree_of, tree_or_null}
 use Rattle.cbor_view.specs.Tree.{Tree, Unsigned, Negative, Bytes, Text, Array, Map, Tag, Simple, Float, bytes_of, text_of}
 use Rattle.std.proofs.lemmas.List.{append_assoc, append-nil}
@@ -97,7 +97,7 @@ opened-lies p rest h e = body-lies p.at p.bytes rest (head-ends p.bytes rest h e
 
 pub tagged-lies : (p q : Part) (n : ℕ) → tag_in p ≡ Some (n, q) → LiesIn p q
 tagged-lies p q n is = go (head_at p.bytes) refl is where
-  go : (o : Result (Head × List ℕ) CborKind) → head_at p.bytes ≡ o → tag_behind p o ≡ Some (n, q) → LiesIn p q
+  go : (o : Result (Head × List ℕ) CborKind) → head_at p.bytes ≡ o → tag_after p o ≡ Some (n, q) → LiesIn p q
   go (Ok (heads.Tag m, rest)) head e =
       let both : (m, body_of p rest) ≡ (n, q) = cc in
       let second : ℕ × Part → Part = λ x. x.1 in
@@ -114,7 +114,7 @@ tagged-lies p q n is = go (head_at p.bytes) refl is where
 
 pub items-lie : (p : Part) (parts : List Part) → items_in p ≡ Some parts → AllByRecursion (LiesIn p) parts
 items-lie p parts is = go (head_at p.bytes) refl is where
-  go : (o : Result (Head × List ℕ) CborKind) → head_at p.bytes ≡ o → array_behind p o ≡ Some parts → AllByRecursion (LiesIn p) parts
+  go : (o : Result (Head × List ℕ) CborKind) → head_at p.bytes ≡ o → array_after p o ≡ Some parts → AllByRecursion (LiesIn p) parts
   go (Ok (heads.Array m, rest)) head e =
       let same : parts_at m (body_of p rest) ≡ parts = cc in
       subst (AllByRecursion (LiesIn p)) same (parts-lie m p (body_of p rest) (opened-lies p rest (heads.Array m) head))
@@ -130,7 +130,7 @@ items-lie p parts is = go (head_at p.bytes) refl is where
 
 pub pairs-lie : (p : Part) (entries : List (Part × Part)) → pairs_in p ≡ Some entries → AllByRecursion (BothLieIn p) entries
 pairs-lie p entries is = go (head_at p.bytes) refl is where
-  go : (o : Result (Head × List ℕ) CborKind) → head_at p.bytes ≡ o → map_behind p o ≡ Some entries → AllByRecursion (BothLieIn p) entries
+  go : (o : Result (Head × List ℕ) CborKind) → head_at p.bytes ≡ o → map_after p o ≡ Some entries → AllByRecursion (BothLieIn p) entries
   go (Ok (heads.Map m, rest)) head e =
       let same : entries_at m (body_of p rest) ≡ entries = cc in
       subst (AllByRecursion (BothLieIn p)) same (entries-lie m p (body_of p rest) (opened-lies p rest (heads.Map m) head))

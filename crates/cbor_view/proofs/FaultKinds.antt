@@ -60,60 +60,60 @@ head-kind (first ∷ rest) = head-if (first % 32 == 31) (Err (endless (first / 3
 
 -- ---- items
 
-abbrev pub stops_behind : {A : Type 0} → Result A Stop → Bool
-stops_behind (Ok x) = false
-stops_behind (Err s) = is_trailing s.kind
+abbrev pub stops_after : {A : Type 0} → Result A Stop → Bool
+stops_after (Ok x) = false
+stops_after (Err s) = is_trailing s.kind
 
-stop-if : {A : Type 0} (b : Bool) (x y : Result A Stop) → stops_behind x ≡ false → stops_behind y ≡ false → stops_behind (if b then x else y) ≡ false
+stop-if : {A : Type 0} (b : Bool) (x y : Result A Stop) → stops_after x ≡ false → stops_after y ≡ false → stops_after (if b then x else y) ≡ false
 stop-if true x y h k = h
 stop-if false x y h k = k
 
-stop-bind : {A B : Type 0} (r : Result A Stop) (f : A → Result B Stop) → stops_behind r ≡ false → ((x : A) → stops_behind (f x) ≡ false) → stops_behind (r >>= f) ≡ false
+stop-bind : {A B : Type 0} (r : Result A Stop) (f : A → Result B Stop) → stops_after r ≡ false → ((x : A) → stops_after (f x) ≡ false) → stops_after (r >>= f) ≡ false
 stop-bind (Ok x) f h k = k x
 stop-bind (Err e) f h k = h
 
 abbrev read : {A : Type 0} → A → List ℕ → Result (A × List ℕ) Stop
 read x rest = Ok (x, rest)
 
-string-stop : (left n : ℕ) (rest : List ℕ) → stops_behind (string_at left n rest) ≡ false
+string-stop : (left n : ℕ) (rest : List ℕ) → stops_after (string_at left n rest) ≡ false
 string-stop left n rest = stop-if (nat_lt (length rest) n) (stop Truncated left) _ refl (stop-if (nat_lt n (2 ^ 32)) (read (take n rest) (drop n rest)) (stop Length left) refl refl)
 
-text-stop : (left n : ℕ) (rest : List ℕ) → stops_behind (text_at left n rest) ≡ false
+text-stop : (left n : ℕ) (rest : List ℕ) → stops_after (text_at left n rest) ≡ false
 text-stop left n rest = stop-bind (string_at left n rest) (λ s. if is_utf8 s.0 then Ok s else stop BadText left) (string-stop left n rest) (λ s. stop-if (is_utf8 s.0) (Ok s) (stop BadText left) refl refl)
 
-items-kind : (one : Reader Tree) → ((bytes : List ℕ) → stops_behind (one bytes) ≡ false) → (n : ℕ) (bytes : List ℕ) → stops_behind (items_at one n bytes) ≡ false
+items-kind : (one : Reader Tree) → ((bytes : List ℕ) → stops_after (one bytes) ≡ false) → (n : ℕ) (bytes : List ℕ) → stops_after (items_at one n bytes) ≡ false
 unfolding items_at
 items-kind one h zero bytes = refl
 items-kind one h (suc n) bytes = stop-bind (one bytes) (λ t. items_at one n t.1 >>= λ ts. read (more t.0 ts.0) ts.1) (h bytes) (λ t. stop-bind (items_at one n t.1) (λ ts. read (more t.0 ts.0) ts.1) (items-kind one h n t.1) (λ ts. refl))
 
-pairs-kind : (one : Reader Tree) → ((bytes : List ℕ) → stops_behind (one bytes) ≡ false) → (n : ℕ) (bytes : List ℕ) → stops_behind (pairs_at one n bytes) ≡ false
+pairs-kind : (one : Reader Tree) → ((bytes : List ℕ) → stops_after (one bytes) ≡ false) → (n : ℕ) (bytes : List ℕ) → stops_after (pairs_at one n bytes) ≡ false
 unfolding pairs_at
 pairs-kind one h zero bytes = refl
 pairs-kind one h (suc n) bytes = stop-bind (one bytes) (λ k. one k.1 >>= λ v. pairs_at one n v.1 >>= λ ps. read (pair k.0 v.0 ps.0) ps.1) (h bytes) (λ k. stop-bind (one k.1) (λ v. pairs_at one n v.1 >>= λ ps. read (pair k.0 v.0 ps.0) ps.1) (h k.1) (λ v. stop-bind (pairs_at one n v.1) (λ ps. read (pair k.0 v.0 ps.0) ps.1) (pairs-kind one h n v.1) (λ ps. refl)))
 
 abbrev Inner : Option (Reader Tree) → Type 0
 Inner None = Unit {0}
-Inner (Some one) = (bytes : List ℕ) → stops_behind (one bytes) ≡ false
+Inner (Some one) = (bytes : List ℕ) → stops_after (one bytes) ≡ false
 
-behind-kind : (room : Option (Reader Tree)) → Inner room → (left : ℕ) (h : Head) (rest : List ℕ) → stops_behind (behind room left h rest) ≡ false
-behind-kind room i left (heads.Unsigned n) rest = refl
-behind-kind room i left (heads.Negative n) rest = refl
-behind-kind room i left (heads.Bytes n) rest = stop-bind (string_at left n rest) (λ s. read (Bytes s.0) s.1) (string-stop left n rest) (λ s. refl)
-behind-kind room i left (heads.Text n) rest = stop-bind (text_at left n rest) (λ s. read (Text s.0) s.1) (text-stop left n rest) (λ s. refl)
-behind-kind None i left (heads.Array n) rest = stop-if {A = Tree × List ℕ} (nat_lt n (2 ^ 32)) (stop Deep left) (stop Length left) refl refl
-behind-kind None i left (heads.Map n) rest = stop-if {A = Tree × List ℕ} (nat_lt n (2 ^ 32)) (stop Deep left) (stop Length left) refl refl
-behind-kind None i left (heads.Tag n) rest = refl
-behind-kind (Some one) i left (heads.Array n) rest = stop-if (nat_lt n (2 ^ 32)) (items_at one n rest >>= λ ts. read (Array ts.0) ts.1) (stop Length left) (stop-bind (items_at one n rest) (λ ts. read (Array ts.0) ts.1) (items-kind one i n rest) (λ ts. refl)) refl
-behind-kind (Some one) i left (heads.Map n) rest = stop-if (nat_lt n (2 ^ 32)) (pairs_at one n rest >>= λ ps. read (Map ps.0) ps.1) (stop Length left) (stop-bind (pairs_at one n rest) (λ ps. read (Map ps.0) ps.1) (pairs-kind one i n rest) (λ ps. refl)) refl
-behind-kind (Some one) i left (heads.Tag n) rest = stop-bind (one rest) (λ t. read (Tag n t.0) t.1) (i rest) (λ t. refl)
-behind-kind room i left (heads.Simple n) rest = refl
-behind-kind room i left (heads.Float w n) rest = refl
+after-kind : (room : Option (Reader Tree)) → Inner room → (left : ℕ) (h : Head) (rest : List ℕ) → stops_after (behind room left h rest) ≡ false
+after-kind room i left (heads.Unsigned n) rest = refl
+after-kind room i left (heads.Negative n) rest = refl
+after-kind room i left (heads.Bytes n) rest = stop-bind (string_at left n rest) (λ s. read (Bytes s.0) s.1) (string-stop left n rest) (λ s. refl)
+after-kind room i left (heads.Text n) rest = stop-bind (text_at left n rest) (λ s. read (Text s.0) s.1) (text-stop left n rest) (λ s. refl)
+after-kind None i left (heads.Array n) rest = stop-if {A = Tree × List ℕ} (nat_lt n (2 ^ 32)) (stop Deep left) (stop Length left) refl refl
+after-kind None i left (heads.Map n) rest = stop-if {A = Tree × List ℕ} (nat_lt n (2 ^ 32)) (stop Deep left) (stop Length left) refl refl
+after-kind None i left (heads.Tag n) rest = refl
+after-kind (Some one) i left (heads.Array n) rest = stop-if (nat_lt n (2 ^ 32)) (items_at one n rest >>= λ ts. read (Array ts.0) ts.1) (stop Length left) (stop-bind (items_at one n rest) (λ ts. read (Array ts.0) ts.1) (items-kind one i n rest) (λ ts. refl)) refl
+after-kind (Some one) i left (heads.Map n) rest = stop-if (nat_lt n (2 ^ 32)) (pairs_at one n rest >>= λ ps. read (Map ps.0) ps.1) (stop Length left) (stop-bind (pairs_at one n rest) (λ ps. read (Map ps.0) ps.1) (pairs-kind one i n rest) (λ ps. refl)) refl
+after-kind (Some one) i left (heads.Tag n) rest = stop-bind (one rest) (λ t. read (Tag n t.0) t.1) (i rest) (λ t. refl)
+after-kind room i left (heads.Simple n) rest = refl
+after-kind room i left (heads.Float w n) rest = refl
 
-started-kind : (room : Option (Reader Tree)) → Inner room → (left : ℕ) (r : Result (Head × List ℕ) CborKind) → trails r ≡ false → stops_behind (behind_head room left r) ≡ false
-started-kind room i left (Ok x) h = behind-kind room i left x.0 x.1
+started-kind : (room : Option (Reader Tree)) → Inner room → (left : ℕ) (r : Result (Head × List ℕ) CborKind) → trails r ≡ false → stops_after (behind_head room left r) ≡ false
+started-kind room i left (Ok x) h = after-kind room i left x.0 x.1
 started-kind room i left (Err kind) h = h
 
-pub item-kind : (d : ℕ) (bytes : List ℕ) → stops_behind (item_at d bytes) ≡ false
+pub item-kind : (d : ℕ) (bytes : List ℕ) → stops_after (item_at d bytes) ≡ false
 unfolding item_at
 item-kind zero bytes = started-kind None tt (length bytes) (head_at bytes) (head-kind bytes)
 item-kind (suc d) bytes = started-kind (Some (item_at d)) (item-kind d) (length bytes) (head_at bytes) (head-kind bytes)

@@ -17,7 +17,7 @@ use Rattle.cbor_view.specs.Tree.{Tree, Bytes, Text, Array, Map, Tag, Trees, none
 use Rattle.cbor_view.specs.Spelling.{Form, Within, One, Two, Four, Eight, limit, information, argument, head, IsHead, AllSpelled}
 use Rattle.cbor_view.specs.Reading.{◌>>=◌, number_at, argument_at, endless, simple_or_float, typed, kind_of, head_at, items_at, pairs_at, item_at, behind, behind_head, stop, string_at, text_at}
 use Rattle.cbor_view.specs.FirstFault.{Announces, items, pairs, tagged, Begun, Due, StartsWith, first_byte, IsString, unassigned, endless as no_end, simple, IsWrong}
-use Rattle.cbor_view.proofs.HeadReading.{AreBytes, HeadOf, if-cases, number-sound_1, bound_1, bound_2, bound_4, bound_8, one_byte, from_24, from_25, from_26, from_27, AreBytes-behind, head-sound}
+use Rattle.cbor_view.proofs.HeadReading.{AreBytes, HeadOf, if-cases, number-sound_1, bound_1, bound_2, bound_4, bound_8, one_byte, from_24, from_25, from_26, from_27, AreBytes-after, head-sound}
 use Rattle.cbor_view.proofs.ItemReading.{string-sound, item-sound, bytes-after, joined}
 use Rattle.cbor_view.proofs.PartialFaults.{bind-err, item-flat, item-deep}
 
@@ -249,7 +249,7 @@ head-wrong inside [] kind are e = no-head inside kind (kind-same {A = Head × Li
 head-wrong inside (first ∷ rest) kind are e =
     let low : first < 256 = are.each 0 in
     let is : 32 * (first / 32) + first % 32 ≡ first = omega arith in
-    subst (λ x. IsWrong kind inside (x ∷ rest)) is (split-wrong inside (first / 32) (first % 32) rest kind (AreBytes-behind (first ∷ []) rest are) (omega arith) (omega arith) e)
+    subst (λ x. IsWrong kind inside (x ∷ rest)) is (split-wrong inside (first / 32) (first % 32) rest kind (AreBytes-after (first ∷ []) rest are) (omega arith) (omega arith) e)
 
 -- ---- items
 

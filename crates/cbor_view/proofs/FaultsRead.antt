@@ -89,7 +89,7 @@ reserved-head bytes (simple n low s) =
 -- ---- items
 
 -- The head alone refuses the item, with so many levels at most: it is no head, or what it announces is no
--- item behind which others are looked at.
+-- item after which others are looked at.
 abbrev pub IsRefused : ℕ → Result (Head × List ℕ) CborKind → Type 0
 IsRefused d (Ok (heads.Array n, rest)) = (d ≡ 0) ⊎ (nat_lt n (2 ^ 32) ≡ false)
 IsRefused d (Ok (heads.Map n, rest)) = (d ≡ 0) ⊎ (nat_lt n (2 ^ 32) ≡ false)

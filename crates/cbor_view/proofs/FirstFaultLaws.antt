@@ -16,7 +16,7 @@ use Rattle.cbor_view.proofs.FaultsRead.{wrong-stops}
 use Rattle.cbor_view.proofs.FaultsDue.{due-stopped, due-inside}
 use Rattle.cbor_view.proofs.FaultsFound.{item-found}
 
--- ---- the fault that is told is one of the bytes
+-- ---- the fault that is reported is one of the bytes
 
 wrong-after : (kind : CborKind) (before rest : List ℕ) → WrongItem kind before rest → WrongAfter kind before rest
 wrong-after Truncated before rest w = w
@@ -67,7 +67,7 @@ has-fault : (bytes : List ℕ) (fault : CborFault) → AreBytes bytes → reads 
 unfolding reads
 has-fault bytes fault are e = fault-has bytes fault (item_at 32 bytes) are refl e
 
--- ---- each fault is told, or one of its place that counts before it
+-- ---- each fault is reported, or one of its place that counts before it
 
 record IsTold (bytes : List ℕ) (at : ℕ) (kind : CborKind) : Type 0 where
   fault : CborFault

@@ -16,9 +16,9 @@ use Rattle.cbor_view.specs.Reading.{◌>>=◌, number_at, argument_at, endless, 
 pub record AreBytes (bytes : List ℕ) : Type 0 where
   pub each : (i : ℕ) → get_or bytes i 0 < 256
 
-pub AreBytes-behind : (front rest : List ℕ) → AreBytes (front ++ rest) → AreBytes rest
-AreBytes-behind [] rest h = h
-AreBytes-behind (x ∷ xs) rest h = AreBytes-behind xs rest (record { each = λ i. h.each (suc i) })
+pub AreBytes-after : (front rest : List ℕ) → AreBytes (front ++ rest) → AreBytes rest
+AreBytes-after [] rest h = h
+AreBytes-after (x ∷ xs) rest h = AreBytes-after xs rest (record { each = λ i. h.each (suc i) })
 
 pub front-each : (front rest : List ℕ) → AreBytes (front ++ rest) → (i : ℕ) → get_or front i 0 < 256
 front-each [] rest h i = omega arith
@@ -304,7 +304,7 @@ head-sound (first ∷ bytes) rest h are e = elim (if-cases (first % 32 == 31) (E
       let same : k.value ≡ h = first-same (k.value, b.value.1) (h, rest) k.after in
       let rests : b.value.1 ≡ rest = second-same (k.value, b.value.1) (h, rest) k.after in
       let low : first < 256 = are.each 0 in
-      let a = argument-sound (first % 32) bytes b.value.1 b.value.0 (AreBytes-behind (first ∷ []) bytes are) b.before in
+      let a = argument-sound (first % 32) bytes b.value.1 b.value.0 (AreBytes-after (first ∷ []) bytes are) b.before in
       let kind : kind_of (first / 32) (information a.form b.value.0) b.value.0 ≡ Ok h = subst (λ i. kind_of (first / 32) i b.value.0 ≡ Ok h) (sym a.told) (k.before ∙ ap (λ g. Ok g) same) in
       let first-is : first ≡ 32 * (first / 32) + information a.form b.value.0 = rw a.told (omega arith) in
       record {

@@ -16,7 +16,7 @@ use Rattle.cbor_view.specs.declared.heads.Head.TheVariants as heads
 use Rattle.cbor_view.specs.Tree.{Tree, Unsigned, Negative, Bytes, Text, Array, Map, Tag, Simple, Float, Trees, none, more, Pairs, no_pair, pair, count, pair_count, levels, levels_of_all, levels_of_pairs}
 use Rattle.cbor_view.specs.Spelling.{IsHead, Spelled, AllSpelled, PairsSpelled}
 use Rattle.cbor_view.specs.Reading.{◌>>=◌, Reader, head_at, items_at, pairs_at, item_at, inner, behind, behind_head, counted, deeper, stop, string_at, text_at}
-use Rattle.cbor_view.proofs.HeadReading.{AreBytes, AreBytes-behind, HeadOf, typed-again, if-cases, bind-ok, first-same, second-same, head-sound}
+use Rattle.cbor_view.proofs.HeadReading.{AreBytes, AreBytes-after, HeadOf, typed-again, if-cases, bind-ok, first-same, second-same, head-sound}
 use Rattle.cbor_view.proofs.Steps.{item-inner, inner-positive}
 
 -- ---- strings
@@ -166,7 +166,7 @@ finished : (d : ℕ) (bytes front mid rest : List ℕ) (t u : Tree) → Spelled 
 finished d bytes front mid rest t u s l w e = subst (λ x. ReadAs d bytes x rest) (first-same (t, mid) (u, rest) e) (record { front = front; spelled = s; nesting = l; whole = w ∙ ap (λ r. front ++ r) (second-same (t, mid) (u, rest) e) })
 
 pub bytes-after : (bytes front rest : List ℕ) → bytes ≡ front ++ rest → AreBytes bytes → AreBytes rest
-bytes-after bytes front rest w are = AreBytes-behind front rest (subst AreBytes w are)
+bytes-after bytes front rest w are = AreBytes-after front rest (subst AreBytes w are)
 
 pub joined : (a b c d e : List ℕ) → a ≡ b ++ c → c ≡ d ++ e → a ≡ (b ++ d) ++ e
 joined a b c d e p q = p ∙ ap (λ x. b ++ x) q ∙ sym (append_assoc b d e)
@@ -222,29 +222,29 @@ Inside d None = Unit {0}
 Inside d (Some one) = (k : ℕ) × (d ≡ suc k) × IsSound k one
 
 -- what follows a head
-behind-sound : (d : ℕ) (room : Option (Reader Tree)) → Inside d room → (left : ℕ) (h : Head) (bytes front body rest : List ℕ) (t : Tree) → HeadOf h front → bytes ≡ front ++ body → AreBytes body → behind room left h body ≡ read t rest → ReadAs d bytes t rest
+after-sound : (d : ℕ) (room : Option (Reader Tree)) → Inside d room → (left : ℕ) (h : Head) (bytes front body rest : List ℕ) (t : Tree) → HeadOf h front → bytes ≡ front ++ body → AreBytes body → behind room left h body ≡ read t rest → ReadAs d bytes t rest
 unfolding Inside
-behind-sound d room inside left (heads.Unsigned n) bytes front body rest t is w are e = finished d bytes front body rest (Unsigned n) t is (omega arith) w e
-behind-sound d room inside left (heads.Negative n) bytes front body rest t is w are e = finished d bytes front body rest (Negative n) t is (omega arith) w e
-behind-sound d room inside left (heads.Simple n) bytes front body rest t is w are e = finished d bytes front body rest (Simple n) t is (omega arith) w e
-behind-sound d room inside left (heads.Float k n) bytes front body rest t is w are e = finished d bytes front body rest (Float k n) t is (omega arith) w e
-behind-sound d room inside left (heads.Bytes n) bytes front body rest t is w are e =
+after-sound d room inside left (heads.Unsigned n) bytes front body rest t is w are e = finished d bytes front body rest (Unsigned n) t is (omega arith) w e
+after-sound d room inside left (heads.Negative n) bytes front body rest t is w are e = finished d bytes front body rest (Negative n) t is (omega arith) w e
+after-sound d room inside left (heads.Simple n) bytes front body rest t is w are e = finished d bytes front body rest (Simple n) t is (omega arith) w e
+after-sound d room inside left (heads.Float k n) bytes front body rest t is w are e = finished d bytes front body rest (Float k n) t is (omega arith) w e
+after-sound d room inside left (heads.Bytes n) bytes front body rest t is w are e =
     let b = bind-ok (string_at left n body) (λ s. read (Bytes s.0) s.1) (t, rest) e in
     let s = string-sound left n body b.value.0 b.value.1 b.before in
     finished d bytes (front ++ b.value.0) b.value.1 rest (Bytes b.value.0) t
     (subst (λ m. m < 2 ^ 32) (sym s.len) s.short, record { front = front; rest = b.value.0; first = subst (λ m. IsHead 2 m front) (sym s.len) is; second = refl; whole = refl })
     (omega arith) (joined bytes front body b.value.0 b.value.1 w s.whole) b.after
-behind-sound d room inside left (heads.Text n) bytes front body rest t is w are e =
+after-sound d room inside left (heads.Text n) bytes front body rest t is w are e =
     let b = bind-ok (text_at left n body) (λ s. read (Text s.0) s.1) (t, rest) e in
     let u = text-sound left n body b.value.0 b.value.1 b.before in
     let s = u.0 in
     finished d bytes (front ++ b.value.0) b.value.1 rest (Text b.value.0) t
     (subst (λ m. m < 2 ^ 32) (sym s.len) s.short, u.1, record { front = front; rest = b.value.0; first = subst (λ m. IsHead 3 m front) (sym s.len) is; second = refl; whole = refl })
     (omega arith) (joined bytes front body b.value.0 b.value.1 w s.whole) b.after
-behind-sound d None inside left (heads.Array n) bytes front body rest t is w are e = elim (if-cases (nat_lt n (2 ^ 32)) (stop Deep left) (stop Length left) (read t rest) e) [ inl k ↦ absurd (cc) | inr k ↦ absurd (cc) ]
-behind-sound d None inside left (heads.Map n) bytes front body rest t is w are e = elim (if-cases (nat_lt n (2 ^ 32)) (stop Deep left) (stop Length left) (read t rest) e) [ inl k ↦ absurd (cc) | inr k ↦ absurd (cc) ]
-behind-sound d None inside left (heads.Tag n) bytes front body rest t is w are e = absurd (cc)
-behind-sound d (Some one) inside left (heads.Array n) bytes front body rest t is w are e = elim (if-cases (nat_lt n (2 ^ 32)) (items_at one n body >>= λ x. read (Array x.0) x.1) (stop Length left) (read t rest) e) [
+after-sound d None inside left (heads.Array n) bytes front body rest t is w are e = elim (if-cases (nat_lt n (2 ^ 32)) (stop Deep left) (stop Length left) (read t rest) e) [ inl k ↦ absurd (cc) | inr k ↦ absurd (cc) ]
+after-sound d None inside left (heads.Map n) bytes front body rest t is w are e = elim (if-cases (nat_lt n (2 ^ 32)) (stop Deep left) (stop Length left) (read t rest) e) [ inl k ↦ absurd (cc) | inr k ↦ absurd (cc) ]
+after-sound d None inside left (heads.Tag n) bytes front body rest t is w are e = absurd (cc)
+after-sound d (Some one) inside left (heads.Array n) bytes front body rest t is w are e = elim (if-cases (nat_lt n (2 ^ 32)) (items_at one n body >>= λ x. read (Array x.0) x.1) (stop Length left) (read t rest) e) [
   | inl k ↦
       let b = bind-ok (items_at one n body) (λ x. read (Array x.0) x.1) (t, rest) k.1 in
       let s = items-sound inside.0 one inside.2 n body b.value.1 b.value.0 are b.before in
@@ -253,7 +253,7 @@ behind-sound d (Some one) inside left (heads.Array n) bytes front body rest t is
       (let l = s.nesting in let q = inside.1 in omega arith) (joined bytes front body s.front b.value.1 w s.whole) b.after
   | inr k ↦ absurd (cc)
 ]
-behind-sound d (Some one) inside left (heads.Map n) bytes front body rest t is w are e = elim (if-cases (nat_lt n (2 ^ 32)) (pairs_at one n body >>= λ x. read (Map x.0) x.1) (stop Length left) (read t rest) e) [
+after-sound d (Some one) inside left (heads.Map n) bytes front body rest t is w are e = elim (if-cases (nat_lt n (2 ^ 32)) (pairs_at one n body >>= λ x. read (Map x.0) x.1) (stop Length left) (read t rest) e) [
   | inl k ↦
       let b = bind-ok (pairs_at one n body) (λ x. read (Map x.0) x.1) (t, rest) k.1 in
       let s = pairs-sound inside.0 one inside.2 n body b.value.1 b.value.0 are b.before in
@@ -262,7 +262,7 @@ behind-sound d (Some one) inside left (heads.Map n) bytes front body rest t is w
       (let l = s.nesting in let q = inside.1 in omega arith) (joined bytes front body s.front b.value.1 w s.whole) b.after
   | inr k ↦ absurd (cc)
 ]
-behind-sound d (Some one) inside left (heads.Tag n) bytes front body rest t is w are e =
+after-sound d (Some one) inside left (heads.Tag n) bytes front body rest t is w are e =
     let b = bind-ok (one body) (λ x. read (Tag n x.0) x.1) (t, rest) e in
     let s = inside.2.each body b.value.1 b.value.0 are b.before in
     finished d bytes (front ++ s.front) b.value.1 rest (Tag n b.value.0) t
@@ -272,7 +272,7 @@ behind-sound d (Some one) inside left (heads.Tag n) bytes front body rest t is w
 head-then : (d : ℕ) (room : Option (Reader Tree)) → Inside d room → (left : ℕ) (bytes rest : List ℕ) (t : Tree) → AreBytes bytes → (r : Result (Head × List ℕ) CborKind) → head_at bytes ≡ r → behind_head room left r ≡ read t rest → ReadAs d bytes t rest
 head-then d room inside left bytes rest t are (Ok x) at e =
     let h = head-sound bytes x.1 x.0 are at in
-    behind-sound d room inside left x.0 bytes h.front x.1 rest t h.head_of h.whole (bytes-after bytes h.front x.1 h.whole are) e
+    after-sound d room inside left x.0 bytes h.front x.1 rest t h.head_of h.whole (bytes-after bytes h.front x.1 h.whole are) e
 head-then d room inside left bytes rest t are (Err kind) at e = absurd (cc)
 
 pub item-sound : (d : ℕ) → IsSound d (item_at d)

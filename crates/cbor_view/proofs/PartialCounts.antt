@@ -6,7 +6,7 @@ use Rattle.cbor_view.specs.declared.heads.Head.{Head}
 use Rattle.cbor_view.specs.declared.heads.Head.TheVariants as heads
 use Rattle.cbor_view.specs.Tree.{Tree}
 use Rattle.cbor_view.specs.Reading.{head_at, item_at}
-use Rattle.cbor_view.specs.Parts.{Part, body_of, after_first, parts_at, array_behind, items_in}
+use Rattle.cbor_view.specs.Parts.{Part, body_of, after_first, parts_at, array_after, items_in}
 use Rattle.cbor_view.specs.PartialItem.{PartialItem, whole, in_array, in_map, in_value, in_tag, broken, item_first, whole_run, own_fault, unfinished, unfinished_array, front, partial_item_at, partial_items, declared_count}
 use Rattle.cbor_view.specs.PartialHead.{head_and_body, array_count}
 use Rattle.cbor_view.proofs.HeadReading.{AreBytes, first-same}
@@ -32,7 +32,7 @@ count-whole k n p rest x m are h i =
     let same : w.h ≡ heads.Array n = first-same (w.h, w.body ++ x.1) (heads.Array n, rest) (sym w.all ∙ h) in
     let own_head : head_at f.bytes ≡ Ok (heads.Array n, w.body) = w.own_fault ∙ ap (λ (y : Head). Ok (y, w.body)) same in
     ap declared_count (partial-whole (suc k) p x i)
-    ∙ (ap (λ (y : Result (Head × List ℕ) CborKind). option_map (λ (ps : List Part). length ps) (array_behind f y)) own_head
+    ∙ (ap (λ (y : Result (Head × List ℕ) CborKind). option_map (λ (ps : List Part). length ps) (array_after f y)) own_head
     ∙ ap (λ (c : ℕ). Some c) (parts-counted n (body_of f w.body)))
 
 count-at : (k n : ℕ) (p : Part) (rest : List ℕ) → suc k ≤ 32 → AreBytes p.bytes → head_at p.bytes ≡ Ok (heads.Array n, rest) → nat_lt n (2 ^ 32) ≡ true → declared_count (partial_item_at (suc k) p) ≡ Some n

@@ -12,7 +12,7 @@ use Rattle.cbor_view.specs.Tree.{Tree, Bytes, Text, Array, Map, Tag, more, pair}
 use Rattle.cbor_view.specs.Reading.{◌>>=◌, head_at, items_at, pairs_at, item_at, behind, behind_head, past, stop, string_at, text_at}
 use Rattle.cbor_view.specs.Parts.{Part, body_of}
 use Rattle.cbor_view.specs.PartialItem.{PartialItem, whole, in_array, in_map, in_value, in_tag, broken, front, split, item_first, pair_first, first_and_rest, whole_run, own_fault, unfinished, unfinished_array, unfinished_map, unfinished_entry, whole_or, partial_item_at, fault_in, place_in, whole_in, both_whole, rest_if_whole, until_broken, partial_pair_at, partial_value_at}
-use Rattle.cbor_view.proofs.HeadReading.{AreBytes, AreBytes-behind, if-cases, head-sound}
+use Rattle.cbor_view.proofs.HeadReading.{AreBytes, AreBytes-after, if-cases, head-sound}
 use Rattle.cbor_view.proofs.ItemReading.{item-sound}
 use Rattle.cbor_view.proofs.Steps.{first-of, failed}
 
@@ -54,19 +54,19 @@ count-left : (left n : ℕ) (s : Stop) → (if nat_lt n (2 ^ 32) then stop {A = 
 count-left left n s e = elim (if-cases (nat_lt n (2 ^ 32)) (stop Deep left) (stop Length left) (Err s) e) [ inl k ↦ stopped {A = Tree × List ℕ} Deep left s k.1 | inr k ↦ stopped {A = Tree × List ℕ} Length left s k.1 ]
 
 -- with no level of nesting left each fault is of the item's own head, string or count
-flat-behind : (left : ℕ) (h : Head) (rest : List ℕ) (s : Stop) → behind None left h rest ≡ Err s → s.left ≡ left
-flat-behind left (heads.Unsigned n) rest s e = absurd (cc)
-flat-behind left (heads.Negative n) rest s e = absurd (cc)
-flat-behind left (heads.Bytes n) rest s e = bytes-left left n rest s e
-flat-behind left (heads.Text n) rest s e = texts-left left n rest s e
-flat-behind left (heads.Array n) rest s e = count-left left n s e
-flat-behind left (heads.Map n) rest s e = count-left left n s e
-flat-behind left (heads.Tag n) rest s e = stopped {A = Tree × List ℕ} Deep left s e
-flat-behind left (heads.Simple n) rest s e = absurd (cc)
-flat-behind left (heads.Float w n) rest s e = absurd (cc)
+flat-after : (left : ℕ) (h : Head) (rest : List ℕ) (s : Stop) → behind None left h rest ≡ Err s → s.left ≡ left
+flat-after left (heads.Unsigned n) rest s e = absurd (cc)
+flat-after left (heads.Negative n) rest s e = absurd (cc)
+flat-after left (heads.Bytes n) rest s e = bytes-left left n rest s e
+flat-after left (heads.Text n) rest s e = texts-left left n rest s e
+flat-after left (heads.Array n) rest s e = count-left left n s e
+flat-after left (heads.Map n) rest s e = count-left left n s e
+flat-after left (heads.Tag n) rest s e = stopped {A = Tree × List ℕ} Deep left s e
+flat-after left (heads.Simple n) rest s e = absurd (cc)
+flat-after left (heads.Float w n) rest s e = absurd (cc)
 
 flat-head : (left : ℕ) (r : Result (Head × List ℕ) CborKind) (s : Stop) → behind_head None left r ≡ Err s → s.left ≡ left
-flat-head left (Ok x) s e = flat-behind left x.0 x.1 s e
+flat-head left (Ok x) s e = flat-after left x.0 x.1 s e
 flat-head left (Err kind) s e = stopped {A = Tree × List ℕ} kind left s e
 
 pub item-flat : (bytes : List ℕ) → item_at 0 bytes ≡ behind_head None (length bytes) (head_at bytes)
@@ -149,12 +149,12 @@ pub record Leaves (bytes rest : List ℕ) : Type 0 where
 pub leaves : (d : ℕ) (bytes : List ℕ) (x : Tree × List ℕ) → AreBytes bytes → item_at d bytes ≡ Ok x → Leaves bytes x.1
 leaves d bytes x are e =
     let s = (item-sound d).each bytes x.1 x.0 are e in
-    record { within = omega (arith, ap length s.whole, length-append s.front x.1); are = AreBytes-behind s.front x.1 (subst AreBytes s.whole are) }
+    record { within = omega (arith, ap length s.whole, length-append s.front x.1); are = AreBytes-after s.front x.1 (subst AreBytes s.whole are) }
 
 pub leaves-head : (bytes rest : List ℕ) (h : Head) → AreBytes bytes → head_at bytes ≡ Ok (h, rest) → Leaves bytes rest
 leaves-head bytes rest h are e =
     let s = head-sound bytes rest h are e in
-    record { within = omega (arith, ap length s.whole, length-append s.front rest); are = AreBytes-behind s.front rest (subst AreBytes s.whole are) }
+    record { within = omega (arith, ap length s.whole, length-append s.front rest); are = AreBytes-after s.front rest (subst AreBytes s.whole are) }
 
 pub record ItemStops (d : ℕ) (s : Stop) (p : Part) : Type 0 where
   pub are : AreBytes p.bytes
@@ -320,8 +320,8 @@ place-is (suc d) p = place-seen p (λ kind. unfinished d (partial_item_at d) p k
 
 -- ---- one step from an item to what follows it
 
-pub left-behind : (d : ℕ) (p : Part) (rest : List ℕ) → AreBytes p.bytes → past (item_at d p.bytes) ≡ Ok rest → Leaves p.bytes rest
-left-behind d p rest are e = let f = first-of (item_at d p.bytes) rest e in leaves d p.bytes (f.0, rest) are f.1
+pub left-after : (d : ℕ) (p : Part) (rest : List ℕ) → AreBytes p.bytes → past (item_at d p.bytes) ≡ Ok rest → Leaves p.bytes rest
+left-after d p rest are e = let f = first-of (item_at d p.bytes) rest e in leaves d p.bytes (f.0, rest) are f.1
 
 -- ---- the steps of iterators
 

@@ -13,7 +13,7 @@ use Rattle.cbor_view.proofs.HeadReading.{AreBytes}
 use Rattle.cbor_view.proofs.WholeReading.{reads-read}
 use Rattle.cbor_view.proofs.PartialFaults.{partial-whole, partial-fault}
 use Rattle.cbor_view.proofs.PartialParts.{front-is}
-use Rattle.cbor_view.proofs.FaultKinds.{is_trailing, stops_behind, item-kind}
+use Rattle.cbor_view.proofs.FaultKinds.{is_trailing, stops_after, item-kind}
 
 pub read-whole : (bytes : List ℕ) (t : Tree) → reads bytes ≡ Ok t → front_item bytes ≡ whole (record { at = 0; bytes = bytes })
 read-whole bytes t e =
@@ -51,7 +51,7 @@ trailing-of bytes fault (Ok x) i e z =
 trailing-of bytes fault (Err s) i e z =
     let kind_of : CborFault → CborKind = λ y. y.kind in
     let k : fault.kind ≡ s.kind = ap kind_of (told-err bytes s fault e) in
-    let a : is_trailing s.kind ≡ false = ap stops_behind (sym i) ∙ item-kind 32 bytes in
+    let a : is_trailing s.kind ≡ false = ap stops_after (sym i) ∙ item-kind 32 bytes in
     let b : is_trailing s.kind ≡ true = ap is_trailing (sym k ∙ z) in
     absurd (cc)
 

@@ -149,7 +149,7 @@ only-broken fault d inside p room s =
     let k : w.told ≡ fault.kind = same-rank w.told fault.kind w.counts (s.1.first w.told w.wrong) in
     told-own d p (record { kind = w.told; left = length p.bytes }) w.stopped w.refused ∙ ap (λ (f : CborFault). broken f) (same-fault (record { kind = w.told; at = p.at }) fault k (sym s.0))
 
--- ---- behind a head
+-- ---- after a head
 
 body-same : (p body : Part) (head : List ℕ) → p.bytes ≡ head ++ body.bytes → body.at ≡ p.at + length head → body_of p body.bytes ≡ body
 body-same p body head w e = body-is p head body.bytes w ∙ ap (λ (m : ℕ). record { at = m; bytes = body.bytes }) (sym e)

@@ -8,7 +8,7 @@ use Rattle.cbor_view.specs.declared.heads.Head.{Head}
 use Rattle.cbor_view.specs.declared.heads.Head.TheVariants as heads
 use Rattle.cbor_view.specs.Tree.{Tree, Array, Map, Tag}
 use Rattle.cbor_view.specs.Reading.{◌>>=◌, head_at, items_at, pairs_at, item_at, behind, behind_head, stop}
-use Rattle.cbor_view.specs.Parts.{Part, body_of, parts_at, entries_at, array_behind, map_behind, tag_behind}
+use Rattle.cbor_view.specs.Parts.{Part, body_of, parts_at, entries_at, array_after, map_after, tag_after}
 use Rattle.cbor_view.specs.PartialItem.{PartialItem, whole, front, item_first, pair_first, whole_run, own_fault, unfinished, unfinished_array, unfinished_map, unfinished_entry, partial_item_at, partial_items, partial_pairs, partial_tag, both_whole, tagged_whole, until_broken, partial_pair_at, partial_value_at}
 use Rattle.cbor_view.specs.PartialHead.{opened, head_and_body, array_count, map_count, tag_number}
 use Rattle.cbor_view.proofs.HeadReading.{AreBytes, if-cases, bind-ok, first-same, second-same, head-sound, typed-again}
@@ -118,7 +118,7 @@ array-whole-open k n p rest x m are h t i =
     let told = subst (λ (c : ℕ). until_broken (partial_item_at k) (item_first k) c (record { at = p.at + length a.front; bytes = s.front ++ b.value.1 }) ≡ map (λ q. whole q) (parts_at c (record { at = p.at + length a.front; bytes = s.front }))) s.counts (all-whole b.value.0 k (p.at + length a.front) s.front b.value.1 s.spelled s.nesting (omega arith)) in
     ap partial_items (partial-whole (suc k) p x i)
     ∙ (ap (λ (q : Part). partial_items (whole q)) (front-is p (a.front ++ s.front) x.1 all)
-    ∙ (ap (λ (y : Result (Head × List ℕ) CborKind). option_map (map (λ q. whole q)) (array_behind f y)) (typed-again (heads.Array n) a.front s.front a.head_of)
+    ∙ (ap (λ (y : Result (Head × List ℕ) CborKind). option_map (map (λ q. whole q)) (array_after f y)) (typed-again (heads.Array n) a.front s.front a.head_of)
     ∙ (ap (λ (q : Part). Some (map (λ q. whole q) (parts_at n q))) (body-is f a.front s.front refl)
     ∙ (ap (λ (gs : List PartialItem). Some gs) (sym told)
     ∙ ap (λ (q : Part). Some (until_broken (partial_item_at k) (item_first k) n q)) (sym here)))))
@@ -181,7 +181,7 @@ map-whole-open k n p rest x m are h t i =
     let told = subst (λ (c : ℕ). until_broken (partial_pair_at k) (pair_first k) c (record { at = p.at + length a.front; bytes = s.front ++ b.value.1 }) ≡ map both_whole (entries_at c (record { at = p.at + length a.front; bytes = s.front }))) s.counts (pairs-whole b.value.0 k (p.at + length a.front) s.front b.value.1 s.spelled s.nesting (omega arith)) in
     ap partial_pairs (partial-whole (suc k) p x i)
     ∙ (ap (λ (q : Part). partial_pairs (whole q)) (front-is p (a.front ++ s.front) x.1 all)
-    ∙ (ap (λ (y : Result (Head × List ℕ) CborKind). option_map (map both_whole) (map_behind f y)) (typed-again (heads.Map n) a.front s.front a.head_of)
+    ∙ (ap (λ (y : Result (Head × List ℕ) CborKind). option_map (map both_whole) (map_after f y)) (typed-again (heads.Map n) a.front s.front a.head_of)
     ∙ (ap (λ (q : Part). Some (map both_whole (entries_at n q))) (body-is f a.front s.front refl)
     ∙ (ap (λ (gs : List (PartialItem × Option PartialItem)). Some gs) (sym told)
     ∙ ap (λ (q : Part). Some (until_broken (partial_pair_at k) (pair_first k) n q)) (sym here)))))
@@ -218,7 +218,7 @@ tag-whole-open k n p rest x m are h i =
     let told : partial_item_at k (body_of p rest) ≡ whole (record { at = p.at + length a.front; bytes = s.front }) = partial-whole k (body_of p rest) b.value b.before ∙ (ap (λ (q : Part). whole q) (front-is (body_of p rest) s.front b.value.1 s.whole) ∙ ap (λ (y : ℕ). whole (record { at = y; bytes = s.front })) place) in
     ap partial_tag (partial-whole (suc k) p x i)
     ∙ (ap (λ (q : Part). partial_tag (whole q)) (front-is p (a.front ++ s.front) x.1 all)
-    ∙ (ap (λ (y : Result (Head × List ℕ) CborKind). option_map tagged_whole (tag_behind f y)) (typed-again (heads.Tag n) a.front s.front a.head_of)
+    ∙ (ap (λ (y : Result (Head × List ℕ) CborKind). option_map tagged_whole (tag_after f y)) (typed-again (heads.Tag n) a.front s.front a.head_of)
     ∙ (ap (λ (q : Part). Some (n, whole q)) (body-is f a.front s.front refl)
     ∙ ap (λ (g : PartialItem). Some (n, g)) (sym told))))
 
@@ -281,7 +281,7 @@ array-flat left (heads.Tag n) rest x e = refl
 array-flat left (heads.Simple n) rest x e = refl
 array-flat left (heads.Float w n) rest x e = refl
 
-no-array-whole : (f : Part) (h : Head) (body : List ℕ) → None ≡ array_argument h → None ≡ option_map (map (λ q. whole q)) (array_behind f (Ok (h, body)))
+no-array-whole : (f : Part) (h : Head) (body : List ℕ) → None ≡ array_argument h → None ≡ option_map (map (λ q. whole q)) (array_after f (Ok (h, body)))
 no-array-whole f (heads.Unsigned n) body z = refl
 no-array-whole f (heads.Negative n) body z = refl
 no-array-whole f (heads.Bytes n) body z = refl
@@ -293,7 +293,7 @@ no-array-whole f (heads.Simple n) body z = refl
 no-array-whole f (heads.Float w n) body z = refl
 
 no-array-front : (d : ℕ) (p : Part) (x : Tree × List ℕ) (h : Head) (body : List ℕ) → item_at d p.bytes ≡ Ok x → head_at (front p x.1).bytes ≡ Ok (h, body) → None ≡ array_argument h → None ≡ partial_items (partial_item_at d p)
-no-array-front d p x h body i own_head a = no-array-whole (front p x.1) h body a ∙ (ap (λ (y : Result (Head × List ℕ) CborKind). option_map (map (λ q. whole q)) (array_behind (front p x.1) y)) (sym own_head) ∙ ap partial_items (sym (partial-whole d p x i)))
+no-array-front d p x h body i own_head a = no-array-whole (front p x.1) h body a ∙ (ap (λ (y : Result (Head × List ℕ) CborKind). option_map (map (λ q. whole q)) (array_after (front p x.1) y)) (sym own_head) ∙ ap partial_items (sym (partial-whole d p x i)))
 
 no-array-at : (k : ℕ) (p : Part) (h : Head) (rest : List ℕ) → suc k ≤ 32 → AreBytes p.bytes → head_at p.bytes ≡ Ok (h, rest) → None ≡ array_count h → None ≡ partial_items (partial_item_at (suc k) p)
 no-array-at k p h rest m are hd z = elim (item_at (suc k) p.bytes) as (λ r. item_at (suc k) p.bytes ≡ r → None ≡ partial_items (partial_item_at (suc k) p)) [
@@ -363,7 +363,7 @@ map-flat left (heads.Tag n) rest x e = refl
 map-flat left (heads.Simple n) rest x e = refl
 map-flat left (heads.Float w n) rest x e = refl
 
-no-map-whole : (f : Part) (h : Head) (body : List ℕ) → None ≡ map_argument h → None ≡ option_map (map both_whole) (map_behind f (Ok (h, body)))
+no-map-whole : (f : Part) (h : Head) (body : List ℕ) → None ≡ map_argument h → None ≡ option_map (map both_whole) (map_after f (Ok (h, body)))
 no-map-whole f (heads.Unsigned n) body z = refl
 no-map-whole f (heads.Negative n) body z = refl
 no-map-whole f (heads.Bytes n) body z = refl
@@ -375,7 +375,7 @@ no-map-whole f (heads.Simple n) body z = refl
 no-map-whole f (heads.Float w n) body z = refl
 
 no-map-front : (d : ℕ) (p : Part) (x : Tree × List ℕ) (h : Head) (body : List ℕ) → item_at d p.bytes ≡ Ok x → head_at (front p x.1).bytes ≡ Ok (h, body) → None ≡ map_argument h → None ≡ partial_pairs (partial_item_at d p)
-no-map-front d p x h body i own_head a = no-map-whole (front p x.1) h body a ∙ (ap (λ (y : Result (Head × List ℕ) CborKind). option_map (map both_whole) (map_behind (front p x.1) y)) (sym own_head) ∙ ap partial_pairs (sym (partial-whole d p x i)))
+no-map-front d p x h body i own_head a = no-map-whole (front p x.1) h body a ∙ (ap (λ (y : Result (Head × List ℕ) CborKind). option_map (map both_whole) (map_after (front p x.1) y)) (sym own_head) ∙ ap partial_pairs (sym (partial-whole d p x i)))
 
 no-map-at : (k : ℕ) (p : Part) (h : Head) (rest : List ℕ) → suc k ≤ 32 → AreBytes p.bytes → head_at p.bytes ≡ Ok (h, rest) → None ≡ map_count h → None ≡ partial_pairs (partial_item_at (suc k) p)
 no-map-at k p h rest m are hd z = elim (item_at (suc k) p.bytes) as (λ r. item_at (suc k) p.bytes ≡ r → None ≡ partial_pairs (partial_item_at (suc k) p)) [
@@ -446,7 +446,7 @@ tag-flat left (heads.Tag n) rest x e = absurd (cc)
 tag-flat left (heads.Simple n) rest x e = refl
 tag-flat left (heads.Float w n) rest x e = refl
 
-no-tag-whole : (f : Part) (h : Head) (body : List ℕ) → None ≡ tag_argument h → None ≡ option_map tagged_whole (tag_behind f (Ok (h, body)))
+no-tag-whole : (f : Part) (h : Head) (body : List ℕ) → None ≡ tag_argument h → None ≡ option_map tagged_whole (tag_after f (Ok (h, body)))
 no-tag-whole f (heads.Unsigned n) body z = refl
 no-tag-whole f (heads.Negative n) body z = refl
 no-tag-whole f (heads.Bytes n) body z = refl
@@ -458,7 +458,7 @@ no-tag-whole f (heads.Simple n) body z = refl
 no-tag-whole f (heads.Float w n) body z = refl
 
 no-tag-front : (d : ℕ) (p : Part) (x : Tree × List ℕ) (h : Head) (body : List ℕ) → item_at d p.bytes ≡ Ok x → head_at (front p x.1).bytes ≡ Ok (h, body) → None ≡ tag_argument h → None ≡ partial_tag (partial_item_at d p)
-no-tag-front d p x h body i own_head a = no-tag-whole (front p x.1) h body a ∙ (ap (λ (y : Result (Head × List ℕ) CborKind). option_map tagged_whole (tag_behind (front p x.1) y)) (sym own_head) ∙ ap partial_tag (sym (partial-whole d p x i)))
+no-tag-front d p x h body i own_head a = no-tag-whole (front p x.1) h body a ∙ (ap (λ (y : Result (Head × List ℕ) CborKind). option_map tagged_whole (tag_after (front p x.1) y)) (sym own_head) ∙ ap partial_tag (sym (partial-whole d p x i)))
 
 no-tag-at : (k : ℕ) (p : Part) (h : Head) (rest : List ℕ) → suc k ≤ 32 → AreBytes p.bytes → head_at p.bytes ≡ Ok (h, rest) → None ≡ tag_number h → None ≡ partial_tag (partial_item_at (suc k) p)
 no-tag-at k p h rest m are hd z = elim (item_at (suc k) p.bytes) as (λ r. item_at (suc k) p.bytes ≡ r → None ≡ partial_tag (partial_item_at (suc k) p)) [

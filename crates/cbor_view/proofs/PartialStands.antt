@@ -103,7 +103,7 @@ pairs-row d inside (suc n) p s room are e = elim (bind-fails (item_at d p.bytes)
       ]
 ]
 
--- one more part behind the others
+-- one more part after the others
 row-ends : (inside : ℕ) (ps : List Part) (q mid after file : Part) → StandInRow inside ps mid file → StandsFirst inside mid q after → StandInRow inside (ps ++ (q ∷ [])) after file
 row-ends inside [] q mid after file row s = record { mid = after; first = subst (λ (f : Part). StandsFirst inside f q after) row s; others = refl }
 row-ends inside (p ∷ ps) q mid after file row s = record { mid = row.mid; first = row.first; others = row-ends inside ps q mid after row.mid row.others s }
@@ -126,7 +126,7 @@ headed inside major n p rest head parts Next after less is w row next = record {
   next = next;
 }
 
--- none that counts before the fault that is told
+-- none that counts before the fault that is reported
 abbrev kind_in : Stop → CborKind
 kind_in s = s.kind
 
@@ -182,25 +182,25 @@ tag-stands d standing inside n p rest head s room are w is e =
     let q : Part = body_of p rest in
     (refl, cut-unfinished d q s are e, headed inside 6 n p rest head [] (Stands (partial_item_at d q) (suc inside)) q (omega arith) is w refl (standing.each (suc inside) q l are))
 
-behind-stands : (d : ℕ) → Standing d → (inside : ℕ) (p : Part) (head rest : List ℕ) (h : Head) (s : Stop) → NoneBefore inside p.bytes s → inside + suc d ≡ 32 → AreBytes rest → p.bytes ≡ head ++ rest → HeadOf h head → behind (Some (item_at d)) (length p.bytes) h rest ≡ Err s → Stands (unfinished d (partial_item_at d) p s.kind (Ok (h, rest))) inside p
-behind-stands d standing inside p head rest (heads.Unsigned n) s b room are w is e = absurd (cc)
-behind-stands d standing inside p head rest (heads.Negative n) s b room are w is e = absurd (cc)
-behind-stands d standing inside p head rest (heads.Bytes n) s b room are w is e = (refl, first-wrong inside p.bytes s b (bytes-wrong inside n p.bytes head rest s w is e))
-behind-stands d standing inside p head rest (heads.Text n) s b room are w is e = (refl, first-wrong inside p.bytes s b (text-wrong inside n p.bytes head rest s w is e))
-behind-stands d standing inside p head rest (heads.Array n) s b room are w is e = elim (if-cases (nat_lt n (2 ^ 32)) (items_at (item_at d) n rest >>= λ ts. read (Array ts.0) ts.1) (stop Length (length p.bytes)) (Err s) e) [
+after-stands : (d : ℕ) → Standing d → (inside : ℕ) (p : Part) (head rest : List ℕ) (h : Head) (s : Stop) → NoneBefore inside p.bytes s → inside + suc d ≡ 32 → AreBytes rest → p.bytes ≡ head ++ rest → HeadOf h head → behind (Some (item_at d)) (length p.bytes) h rest ≡ Err s → Stands (unfinished d (partial_item_at d) p s.kind (Ok (h, rest))) inside p
+after-stands d standing inside p head rest (heads.Unsigned n) s b room are w is e = absurd (cc)
+after-stands d standing inside p head rest (heads.Negative n) s b room are w is e = absurd (cc)
+after-stands d standing inside p head rest (heads.Bytes n) s b room are w is e = (refl, first-wrong inside p.bytes s b (bytes-wrong inside n p.bytes head rest s w is e))
+after-stands d standing inside p head rest (heads.Text n) s b room are w is e = (refl, first-wrong inside p.bytes s b (text-wrong inside n p.bytes head rest s w is e))
+after-stands d standing inside p head rest (heads.Array n) s b room are w is e = elim (if-cases (nat_lt n (2 ^ 32)) (items_at (item_at d) n rest >>= λ ts. read (Array ts.0) ts.1) (stop Length (length p.bytes)) (Err s) e) [
   | inl k ↦ array-stands d standing inside n p rest head s room are w is k.0 (bind-err (items_at (item_at d) n rest) (λ ts. Array ts) s k.1)
   | inr k ↦ let t : nat_lt n (2 ^ 32) ≡ false = k.0 in rw t (refl, first-wrong inside p.bytes s b (count-wrong 4 inside n p.bytes head rest s w is (inl refl) k.0 k.1))
 ]
-behind-stands d standing inside p head rest (heads.Map n) s b room are w is e = elim (if-cases (nat_lt n (2 ^ 32)) (pairs_at (item_at d) n rest >>= λ ps. read (Map ps.0) ps.1) (stop Length (length p.bytes)) (Err s) e) [
+after-stands d standing inside p head rest (heads.Map n) s b room are w is e = elim (if-cases (nat_lt n (2 ^ 32)) (pairs_at (item_at d) n rest >>= λ ps. read (Map ps.0) ps.1) (stop Length (length p.bytes)) (Err s) e) [
   | inl k ↦ map-stands d standing inside n p rest head s room are w is k.0 (bind-err (pairs_at (item_at d) n rest) (λ ps. Map ps) s k.1)
   | inr k ↦ let t : nat_lt n (2 ^ 32) ≡ false = k.0 in rw t (refl, first-wrong inside p.bytes s b (count-wrong 5 inside n p.bytes head rest s w is (inr refl) k.0 k.1))
 ]
-behind-stands d standing inside p head rest (heads.Tag n) s b room are w is e = tag-stands d standing inside n p rest head s room are w is (bind-err (item_at d rest) (λ t. Tag n t) s e)
-behind-stands d standing inside p head rest (heads.Simple n) s b room are w is e = absurd (cc)
-behind-stands d standing inside p head rest (heads.Float width n) s b room are w is e = absurd (cc)
+after-stands d standing inside p head rest (heads.Tag n) s b room are w is e = tag-stands d standing inside n p rest head s room are w is (bind-err (item_at d rest) (λ t. Tag n t) s e)
+after-stands d standing inside p head rest (heads.Simple n) s b room are w is e = absurd (cc)
+after-stands d standing inside p head rest (heads.Float width n) s b room are w is e = absurd (cc)
 
 head-stands : (d : ℕ) → Standing d → (inside : ℕ) (p : Part) (s : Stop) (r : Result (Head × List ℕ) CborKind) → NoneBefore inside p.bytes s → inside + suc d ≡ 32 → AreBytes p.bytes → head_at p.bytes ≡ r → behind_head (Some (item_at d)) (length p.bytes) r ≡ Err s → Stands (unfinished d (partial_item_at d) p s.kind r) inside p
-head-stands d standing inside p s (Ok x) b room are r e = let h = head-sound p.bytes x.1 x.0 are r in behind-stands d standing inside p h.front x.1 x.0 s b room (bytes-after p.bytes h.front x.1 h.whole are) h.whole h.head_of e
+head-stands d standing inside p s (Ok x) b room are r e = let h = head-sound p.bytes x.1 x.0 are r in after-stands d standing inside p h.front x.1 x.0 s b room (bytes-after p.bytes h.front x.1 h.whole are) h.whole h.head_of e
 head-stands d standing inside p s (Err kind) b room are r e = (refl, first-wrong inside p.bytes s b (kind-wrong inside p.bytes kind s are r e))
 
 -- ---- all levels

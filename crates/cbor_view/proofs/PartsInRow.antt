@@ -1,4 +1,4 @@
--- The parts of a whole item stand in a row behind its head, and nothing else does.
+-- The parts of a whole item stand in a row after its head, and nothing else does.
 use Rattle.std.proofs.Common.{◌≡◌, ℕ, zero, suc, ◌+◌, ◌<◌, ◌≤◌, List, [], ◌∷◌, ◌++◌, length, Some, None, Ok, refl, sym, ap, ◌∙◌, subst, arith}
 use Rattle.std.proofs.lemmas.List.{length-append, append-nil}
 use Rattle.std.proofs.Math.Nat.{le-max_left, le-max_right}
@@ -7,7 +7,7 @@ use Rattle.cbor_view.specs.declared.heads.Head.TheVariants as heads
 use Rattle.cbor_view.specs.Tree.{Tree, Unsigned, Negative, Bytes, Text, Array, Map, Tag, Simple, Float, Trees, none, more, Pairs, no_pair, pair, count, pair_count, levels, levels_of_all, levels_of_pairs}
 use Rattle.cbor_view.specs.Spelling.{Spelled, AllSpelled, PairsSpelled}
 use Rattle.cbor_view.specs.Reading.{head_at}
-use Rattle.cbor_view.specs.Parts.{Part, first_part, after_first, parts_at, entries_at, body_of, array_behind, map_behind, tag_behind, items_in, pairs_in, tag_in}
+use Rattle.cbor_view.specs.Parts.{Part, first_part, after_first, parts_at, entries_at, body_of, array_after, map_after, tag_after, items_in, pairs_in, tag_in}
 use Rattle.cbor_view.specs.PartialSpelling.{StandsFirst, StandInRow, keys_and_values, IsEnd, IsMadeOf}
 use Rattle.cbor_view.proofs.HeadReading.{HeadOf, typed-again}
 use Rattle.cbor_view.proofs.PartialParts.{first-is, parts-more, entries-more}
@@ -16,7 +16,7 @@ use Rattle.cbor_view.proofs.PartialStands.{headed}
 
 -- ---- rows
 
--- the place behind bytes
+-- the place after bytes
 abbrev end_of : ℕ → List ℕ → Part
 end_of at bytes = record { at = at + length bytes; bytes = [] }
 
@@ -99,20 +99,20 @@ head-read p front rest h w is = ap head_at w ∙ typed-again h front rest is
 alone : (p : Part) (h : Head) → HeadOf h p.bytes → head_at p.bytes ≡ Ok (h, [])
 alone p h is = head-read p p.bytes [] h (sym (append-nil p.bytes)) is
 
-no-items : (p : Part) (h : Head) (rest : List ℕ) (items : List Part) → head_at p.bytes ≡ Ok (h, rest) → array_behind p (Ok (h, rest)) ≡ None → items_in p ≡ Some items → IsMadeOf 4 (length items) items p
-no-items p h rest items e n is = let k : items_in p ≡ None = ap (array_behind p) e ∙ n in absurd (cc)
+no-items : (p : Part) (h : Head) (rest : List ℕ) (items : List Part) → head_at p.bytes ≡ Ok (h, rest) → array_after p (Ok (h, rest)) ≡ None → items_in p ≡ Some items → IsMadeOf 4 (length items) items p
+no-items p h rest items e n is = let k : items_in p ≡ None = ap (array_after p) e ∙ n in absurd (cc)
 
-no-pairs : (p : Part) (h : Head) (rest : List ℕ) (entries : List (Part × Part)) → head_at p.bytes ≡ Ok (h, rest) → map_behind p (Ok (h, rest)) ≡ None → pairs_in p ≡ Some entries → IsMadeOf 5 (length entries) (keys_and_values entries) p
-no-pairs p h rest entries e n is = let k : pairs_in p ≡ None = ap (map_behind p) e ∙ n in absurd (cc)
+no-pairs : (p : Part) (h : Head) (rest : List ℕ) (entries : List (Part × Part)) → head_at p.bytes ≡ Ok (h, rest) → map_after p (Ok (h, rest)) ≡ None → pairs_in p ≡ Some entries → IsMadeOf 5 (length entries) (keys_and_values entries) p
+no-pairs p h rest entries e n is = let k : pairs_in p ≡ None = ap (map_after p) e ∙ n in absurd (cc)
 
-no-tag : (p q : Part) (h : Head) (rest : List ℕ) (n : ℕ) → head_at p.bytes ≡ Ok (h, rest) → tag_behind p (Ok (h, rest)) ≡ None → tag_in p ≡ Some (n, q) → IsMadeOf 6 n (q ∷ []) p
-no-tag p q h rest n e z is = let k : tag_in p ≡ None = ap (tag_behind p) e ∙ z in absurd (cc)
+no-tag : (p q : Part) (h : Head) (rest : List ℕ) (n : ℕ) → head_at p.bytes ≡ Ok (h, rest) → tag_after p (Ok (h, rest)) ≡ None → tag_in p ≡ Some (n, q) → IsMadeOf 6 n (q ∷ []) p
+no-tag p q h rest n e z is = let k : tag_in p ≡ None = ap (tag_after p) e ∙ z in absurd (cc)
 
 pub items-made : (t : Tree) (p : Part) (items : List Part) → Spelled t p.bytes → levels t ≤ 32 → items_in p ≡ Some items → IsMadeOf 4 (length items) items p
 items-made (Array ts) p items s l is =
     let q : Part = body_of p s.1.rest in
     let e = head-read p s.1.front s.1.rest (heads.Array (count ts)) s.1.whole s.1.first in
-    let some : items_in p ≡ Some (parts_at (count ts) q) = ap (array_behind p) e in
+    let some : items_in p ≡ Some (parts_at (count ts) q) = ap (array_after p) e in
     let same : parts_at (count ts) q ≡ items = cc in
     let n : count ts ≡ length (parts_at (count ts) q) = sym (parts-counted (count ts) q) in
     let made : IsMadeOf 4 (count ts) (parts_at (count ts) q) p = headed 0 4 (count ts) p s.1.rest s.1.front (parts_at (count ts) q) IsEnd (end_of q.at s.1.rest) (omega arith) s.1.first s.1.whole (parts-row ts 1 q.at s.1.rest s.1.second (omega arith)) refl in
@@ -130,7 +130,7 @@ pub pairs-made : (t : Tree) (p : Part) (entries : List (Part × Part)) → Spell
 pairs-made (Map ps) p entries s l is =
     let q : Part = body_of p s.1.rest in
     let e = head-read p s.1.front s.1.rest (heads.Map (pair_count ps)) s.1.whole s.1.first in
-    let some : pairs_in p ≡ Some (entries_at (pair_count ps) q) = ap (map_behind p) e in
+    let some : pairs_in p ≡ Some (entries_at (pair_count ps) q) = ap (map_after p) e in
     let same : entries_at (pair_count ps) q ≡ entries = cc in
     let n : pair_count ps ≡ length (entries_at (pair_count ps) q) = sym (entries-counted (pair_count ps) q) in
     let made : IsMadeOf 5 (pair_count ps) (keys_and_values (entries_at (pair_count ps) q)) p = headed 0 5 (pair_count ps) p s.1.rest s.1.front (keys_and_values (entries_at (pair_count ps) q)) IsEnd (end_of q.at s.1.rest) (omega arith) s.1.first s.1.whole (entries-row ps 1 q.at s.1.rest s.1.second (omega arith)) refl in
@@ -153,7 +153,7 @@ tag-made (Tag m t) p q n s l is =
     let outer : 0 < 32 = omega arith in
     let r : Part = body_of p s.rest in
     let e = head-read p s.front s.rest (heads.Tag m) s.whole s.first in
-    let some : tag_in p ≡ Some (m, r) = ap (tag_behind p) e in
+    let some : tag_in p ≡ Some (m, r) = ap (tag_after p) e in
     let same : (m, r) ≡ (n, q) = cc in
     let made : IsMadeOf 6 m (r ∷ []) p = headed 0 6 m p s.rest s.front (r ∷ []) IsEnd (end_of r.at s.rest) outer s.first s.whole (tag-row t 1 r.at s.rest s.second nesting) refl in
     subst (λ (x : ℕ × Part). IsMadeOf 6 x.0 (x.1 ∷ []) p) same made

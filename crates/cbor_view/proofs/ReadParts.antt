@@ -7,8 +7,8 @@ use Rattle.cbor_view.specs.declared.heads.Head.{Head}
 use Rattle.cbor_view.specs.declared.heads.Head.TheVariants as heads
 use Rattle.cbor_view.specs.Opening.{are_items, are_pairs, Opens}
 use Rattle.cbor_view.specs.Reading.{head_at, reads, tree_of, size}
-use Rattle.cbor_view.specs.Parts.{Part, first_part, after_first, parts_at, entries_at, body_of, array_behind, map_behind, tag_behind, items_in, pairs_in, under, tagged, bytes_in}
-use Rattle.cbor_view.proofs.HeadReading.{AreBytes, AreBytes-behind, front-each}
+use Rattle.cbor_view.specs.Parts.{Part, first_part, after_first, parts_at, entries_at, body_of, array_after, map_after, tag_after, items_in, pairs_in, under, tagged, bytes_in}
+use Rattle.cbor_view.proofs.HeadReading.{AreBytes, AreBytes-after, front-each}
 use Rattle.cbor_view.proofs.Splitting.{split-opens, split-end}
 
 -- a part is bytes that spell one item
@@ -22,8 +22,8 @@ BothRead entry = IsRead entry.0 × IsRead entry.1
 bytes_front : (n : ℕ) (bytes : List ℕ) → AreBytes bytes → AreBytes (take n bytes)
 bytes_front n bytes are = record { each = front-each (take n bytes) (drop n bytes) (subst AreBytes (sym (take-append-drop n bytes)) are) }
 
-bytes_behind : (n : ℕ) (bytes : List ℕ) → AreBytes bytes → AreBytes (drop n bytes)
-bytes_behind n bytes are = AreBytes-behind (take n bytes) (drop n bytes) (subst AreBytes (sym (take-append-drop n bytes)) are)
+bytes_after : (n : ℕ) (bytes : List ℕ) → AreBytes bytes → AreBytes (drop n bytes)
+bytes_after n bytes are = AreBytes-after (take n bytes) (drop n bytes) (subst AreBytes (sym (take-append-drop n bytes)) are)
 
 first_read : (q : Part) → AreBytes q.bytes → IsOk (reads (first_part q).bytes) → IsRead (first_part q)
 first_read q are ok = record { are = bytes_front (size q.bytes) q.bytes are; ok = ok }
@@ -33,7 +33,7 @@ unfolding parts_at
 parts_read zero q are items = tt
 parts_read (suc n) q are items =
     let both = and_parts _ _ items in
-    (first_read q are both.0, parts_read n (after_first q) (bytes_behind (size q.bytes) q.bytes are) both.1)
+    (first_read q are both.0, parts_read n (after_first q) (bytes_after (size q.bytes) q.bytes are) both.1)
 
 entries_read : (n : ℕ) (q : Part) → AreBytes q.bytes → are_pairs n q.bytes ≡ true → AllByRecursion BothRead (entries_at n q)
 unfolding entries_at
@@ -42,18 +42,18 @@ entries_read (suc n) q are pairs =
     let all = and_parts _ _ pairs in
     let both = and_parts _ _ all.0 in
     let value = and_parts _ _ both.1 in
-    let behind = bytes_behind (size q.bytes) q.bytes are in (
+    let behind = bytes_after (size q.bytes) q.bytes are in (
       (first_read q are both.0, first_read (after_first q) behind value.0),
-      entries_read n (after_first (after_first q)) (bytes_behind (size (after_first q).bytes) (after_first q).bytes behind) all.1,
+      entries_read n (after_first (after_first q)) (bytes_after (size (after_first q).bytes) (after_first q).bytes behind) all.1,
     )
 
 bytes_of_body : (bytes rest : List ℕ) (h : Head) → AreBytes bytes → head_at bytes ≡ Ok (h, rest) → AreBytes rest
-bytes_of_body bytes rest h are e = let ends = split-end bytes rest h are e in AreBytes-behind ends.front rest (subst AreBytes ends.whole are)
+bytes_of_body bytes rest h are e = let ends = split-end bytes rest h are e in AreBytes-after ends.front rest (subst AreBytes ends.whole are)
 
 -- the items of an array
 pub items_read : (p : Part) (parts : List Part) → IsRead p → items_in p ≡ Some parts → AllByRecursion IsRead parts
 items_read p parts read is = go (head_at p.bytes) refl is where
-  go : (o : Result (Head × List ℕ) CborKind) → head_at p.bytes ≡ o → array_behind p o ≡ Some parts → AllByRecursion IsRead parts
+  go : (o : Result (Head × List ℕ) CborKind) → head_at p.bytes ≡ o → array_after p o ≡ Some parts → AllByRecursion IsRead parts
   go (Err kind) head e = cc
   go (Ok (heads.Array n, rest)) head e =
       let same : parts_at n (body_of p rest) ≡ parts = cc in
@@ -71,7 +71,7 @@ items_read p parts read is = go (head_at p.bytes) refl is where
 -- the keys and the values of a map
 pub pairs_read : (p : Part) (entries : List (Part × Part)) → IsRead p → pairs_in p ≡ Some entries → AllByRecursion BothRead entries
 pairs_read p entries read is = go (head_at p.bytes) refl is where
-  go : (o : Result (Head × List ℕ) CborKind) → head_at p.bytes ≡ o → map_behind p o ≡ Some entries → AllByRecursion BothRead entries
+  go : (o : Result (Head × List ℕ) CborKind) → head_at p.bytes ≡ o → map_after p o ≡ Some entries → AllByRecursion BothRead entries
   go (Err kind) head e = cc
   go (Ok (heads.Map n, rest)) head e =
       let same : entries_at n (body_of p rest) ≡ entries = cc in
@@ -93,12 +93,12 @@ string_under n tag = option_and_then bytes_in (option_and_then (under n) tag)
 
 -- a string under a tag is the same at every place
 pub string_moved : (n : ℕ) (p q : Part) → p.bytes ≡ q.bytes → option_and_then bytes_in (tagged n p) ≡ option_and_then bytes_in (tagged n q)
-string_moved n p q same = go (head_at p.bytes) ∙ ap (λ (o : Result (Head × List ℕ) CborKind). string_under n (tag_behind q o)) (ap head_at same) where
+string_moved n p q same = go (head_at p.bytes) ∙ ap (λ (o : Result (Head × List ℕ) CborKind). string_under n (tag_after q o)) (ap head_at same) where
   by : (b : Bool) (rest : List ℕ) → option_and_then bytes_in (cond b (Some (body_of p rest)) None) ≡ option_and_then bytes_in (cond b (Some (body_of q rest)) None)
   by true rest = refl
   by false rest = refl
 
-  go : (o : Result (Head × List ℕ) CborKind) → string_under n (tag_behind p o) ≡ string_under n (tag_behind q o)
+  go : (o : Result (Head × List ℕ) CborKind) → string_under n (tag_after p o) ≡ string_under n (tag_after q o)
   go (Err kind) = refl
   go (Ok (heads.Tag m, rest)) = by (m == n) rest
   go (Ok (heads.Array m, rest)) = refl

@@ -7,7 +7,7 @@ use Rattle.cbor_view.specs.Tree.{Tree, Array, Map, Tag, Trees, none, more, Pairs
 use Rattle.cbor_view.specs.Spelling.{Spelled, AllSpelled, PairsSpelled, Fits}
 use Rattle.cbor_view.specs.Shortest.{shortest, shortest_head, array_bytes, map_bytes, tag_bytes}
 use Rattle.cbor_view.specs.Reading.{reads, tree_of, tree_or_null}
-use Rattle.cbor_view.specs.Parts.{Part, cbor, part_of, parts_at, entries_at, array_behind, map_behind, items_in, pairs_in, tag_behind, tag_in}
+use Rattle.cbor_view.specs.Parts.{Part, cbor, part_of, parts_at, entries_at, array_after, map_after, items_in, pairs_in, tag_after, tag_in}
 use Rattle.cbor_view.proofs.HeadReading.{typed-again}
 use Rattle.cbor_view.proofs.ShortestSpelling.{head-spelled, shortest-spelled}
 use Rattle.cbor_view.proofs.Splitting.{is-first}
@@ -76,7 +76,7 @@ pairs-written d es at p h n =
     let front = shortest_head 5 (length es) in
     let rest = flat_map both es in
     let head = typed-again (heads.Map (length es)) front rest (head-spelled 5 (length es) (omega arith)) in
-    ap (map_behind (record { at = at; bytes = front ++ rest })) head
+    ap (map_after (record { at = at; bytes = front ++ rest })) head
     ∙ ap (λ place. Some (entries_at (length es) (record { at = place; bytes = rest }))) (body-place at front rest)
     ∙ ap (λ x. Some x) (entries-body d es (at + length front) p h)
 
@@ -158,7 +158,7 @@ items-written d parts at p h n =
     let front = shortest_head 4 (length parts) in
     let rest = flat_map own parts in
     let head = typed-again (heads.Array (length parts)) front rest (head-spelled 4 (length parts) (omega arith)) in
-    ap (array_behind (record { at = at; bytes = front ++ rest })) head
+    ap (array_after (record { at = at; bytes = front ++ rest })) head
     ∙ ap (λ place. Some (parts_at (length parts) (record { at = place; bytes = rest }))) (body-place at front rest)
     ∙ ap (λ (x : List Part). Some x) (parts-body d parts (at + length front) p h)
 
@@ -167,7 +167,7 @@ pub array-untagged : (parts : List (List ℕ)) (at : ℕ) → length parts < 2 ^
 array-untagged parts at n =
     let front = shortest_head 4 (length parts) in
     let rest = flat_map own parts in
-    ap (tag_behind (record { at = at; bytes = front ++ rest })) (typed-again (heads.Array (length parts)) front rest (head-spelled 4 (length parts) (omega arith)))
+    ap (tag_after (record { at = at; bytes = front ++ rest })) (typed-again (heads.Array (length parts)) front rest (head-spelled 4 (length parts) (omega arith)))
 
 -- the tree of such an array
 record HasItems (d : ℕ) (parts : List (List ℕ)) : Type 0 where
@@ -211,5 +211,5 @@ piece-array d parts p n =
 pub tag-written : (n at : ℕ) (inner : List ℕ) → n < 2 ^ 64 → tag_in (record { at = at; bytes = tag_bytes n inner }) ≡ Some (n, record { at = at + length (shortest_head 6 n); bytes = inner })
 tag-written n at inner h =
     let front = shortest_head 6 n in
-    ap (tag_behind (record { at = at; bytes = front ++ inner })) (typed-again (heads.Tag n) front inner (head-spelled 6 n h))
+    ap (tag_after (record { at = at; bytes = front ++ inner })) (typed-again (heads.Tag n) front inner (head-spelled 6 n h))
     ∙ ap (λ place. Some (n, record { at = place; bytes = inner })) (body-place at front inner)

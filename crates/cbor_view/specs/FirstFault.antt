@@ -9,7 +9,7 @@ use Rattle.cbor_view.specs.Spelling.{One, head, IsHead, InOrder, Is, AllSpelled,
 
 -- ---- where an item is due
 
--- The bytes are the head of an array, a map or a tag behind which so many items stand: those of the array,
+-- The bytes are the head of an array, a map or a tag after which so many items stand: those of the array,
 -- two for each pair of the map, one under the tag.
 pub data Announces (n : ℕ) (bytes : List ℕ) : Type 0 where
   items : n < 2 ^ 32 → IsHead 4 n bytes → Announces n bytes
@@ -112,13 +112,13 @@ IsWrong Trailing inside bytes = ⊥
 
 -- ---- the faults of bytes
 
--- An item is due after the first bytes, and what stands behind them is wrong.
+-- An item is due after the first bytes, and what stands after them is wrong.
 pub record WrongItem (kind : CborKind) (before rest : List ℕ) : Type 0 where
   pub inside : ℕ
   pub due : Due inside before
   pub wrong : IsWrong kind inside rest
 
--- The first bytes are the whole item, and more stand behind them.
+-- The first bytes are the whole item, and more stand after them.
 pub record GoesOn (before rest : List ℕ) : Type 0 where
   pub tree : Tree
   pub item : Spells before tree

@@ -20,19 +20,19 @@ pub record StandsFirst (inside : ℕ) (file p after : Part) : Type 0 where
   pub place : p.at ≡ file.at
   pub next : after.at ≡ file.at + length p.bytes
 
--- The part stands first, and others behind it.
+-- The part stands first, and others after it.
 pub record FirstAndRow (inside : ℕ) (p : Part) (Others : Part → Type 0) (file : Part) : Type 0 where
   pub mid : Part
   pub first : StandsFirst inside file p mid
   pub others : Others mid
 
--- The parts stand first, one behind the other, and `after` follows the last of them.
+-- The parts stand first, one after the other, and `after` follows the last of them.
 abbrev pub StandInRow : ℕ → List Part → Part → Part → Type 0
 StandInRow inside [] after file = after ≡ file
 StandInRow inside (p ∷ ps) after file = FirstAndRow inside p (StandInRow inside ps after) file
 
--- First stands a head of that major type with that argument, inside fewer than 32 others, behind it the parts
--- one behind the other, and what follows them is as `Next` says.
+-- First stands a head of that major type with that argument, inside fewer than 32 others, after it the parts
+-- one after the other, and what follows them is as `Next` says.
 pub record HeadAndParts (inside major n : ℕ) (parts : List Part) (Next : Part → Type 0) (file : Part) : Type 0 where
   pub head : List ℕ
   pub body : Part

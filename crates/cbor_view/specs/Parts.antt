@@ -75,27 +75,27 @@ entries_at (suc n) p = (first_part p, first_part (after_first p)) ∷ entries_at
 abbrev pub body_of : Part → List ℕ → Part
 body_of p rest = record { at = p.at + (length p.bytes - length rest); bytes = rest }
 
-abbrev pub array_behind : Part → Result (Head × List ℕ) CborKind → Option (List Part)
-array_behind p (Ok (heads.Array n, rest)) = Some (parts_at n (body_of p rest))
-array_behind p _ = None
+abbrev pub array_after : Part → Result (Head × List ℕ) CborKind → Option (List Part)
+array_after p (Ok (heads.Array n, rest)) = Some (parts_at n (body_of p rest))
+array_after p _ = None
 
-abbrev pub map_behind : Part → Result (Head × List ℕ) CborKind → Option (List (Part × Part))
-map_behind p (Ok (heads.Map n, rest)) = Some (entries_at n (body_of p rest))
-map_behind p _ = None
+abbrev pub map_after : Part → Result (Head × List ℕ) CborKind → Option (List (Part × Part))
+map_after p (Ok (heads.Map n, rest)) = Some (entries_at n (body_of p rest))
+map_after p _ = None
 
-abbrev pub tag_behind : Part → Result (Head × List ℕ) CborKind → Option (ℕ × Part)
-tag_behind p (Ok (heads.Tag n, rest)) = Some (n, body_of p rest)
-tag_behind p _ = None
+abbrev pub tag_after : Part → Result (Head × List ℕ) CborKind → Option (ℕ × Part)
+tag_after p (Ok (heads.Tag n, rest)) = Some (n, body_of p rest)
+tag_after p _ = None
 
 -- the items of an array, and the pairs of a map, in order; the number of a tag with what stands under it
 abbrev pub items_in : Part → Option (List Part)
-items_in p = array_behind p (head_at p.bytes)
+items_in p = array_after p (head_at p.bytes)
 
 abbrev pub pairs_in : Part → Option (List (Part × Part))
-pairs_in p = map_behind p (head_at p.bytes)
+pairs_in p = map_after p (head_at p.bytes)
 
 abbrev pub tag_in : Part → Option (ℕ × Part)
-tag_in p = tag_behind p (head_at p.bytes)
+tag_in p = tag_after p (head_at p.bytes)
 
 -- what stands under a tag, where it is the tag of that number
 abbrev pub under : ℕ → ℕ × Part → Option Part

@@ -18,9 +18,9 @@ bind_some (Some x) f y e = (x, refl, e)
 
 -- ---- the digits of a number
 
-behind-worth : (bytes found : List ℕ) → after_zero bytes ≡ Some found → worth found ≡ worth bytes
-behind-worth [] found is = ap worth (sym (same_value [] found is))
-behind-worth (b ∷ bytes) found is = go (nat_lt b 128) is where
+after-worth : (bytes found : List ℕ) → after_zero bytes ≡ Some found → worth found ≡ worth bytes
+after-worth [] found is = ap worth (sym (same_value [] found is))
+after-worth (b ∷ bytes) found is = go (nat_lt b 128) is where
   go : (low : Bool) → cond low None (present (b ∷ bytes)) ≡ Some found → worth found ≡ worth (b ∷ bytes)
   go true is = absurd cc
   go false is = ap worth (sym (same_value (b ∷ bytes) found is))
@@ -32,7 +32,7 @@ digits-worth : (body found : List ℕ) → digits body ≡ Some found → worth 
 digits-worth [] found is = absurd cc
 digits-worth (b ∷ bytes) found is = go (b == 0) (nat_lt b 128) refl is where
   go : (none low : Bool) → (b == 0) ≡ none → cond none (after_zero bytes) (cond low (present (b ∷ bytes)) None) ≡ Some found → worth found ≡ worth (b ∷ bytes)
-  go true low none is = behind-worth bytes found is ∙ sym (zero-worth b bytes (eqb-true b 0 none))
+  go true low none is = after-worth bytes found is ∙ sym (zero-worth b bytes (eqb-true b 0 none))
   go false true none is = ap worth (sym (same_value (b ∷ bytes) found is))
   go false false none is = absurd cc
 

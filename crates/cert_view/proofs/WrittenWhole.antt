@@ -86,7 +86,7 @@ layout_at at v s g i t u k last = record {
   extensions = last;
 }
 
--- the place behind them
+-- the place after them
 abbrev behind : ℕ → (v s g i t u k : List ℕ) → ℕ
 behind at v s g i t u k = at + length v + length s + length g + length i + length t + length u + length k
 

@@ -52,7 +52,7 @@ abbrev pub without_zeros : List ℕ → List ℕ
 without_zeros [] = []
 without_zeros (byte ∷ bytes) = if byte == 0 then without_zeros bytes else byte ∷ bytes
 
--- a byte 0 in front of digits, where there is none or the first has its highest bit set (X.690, 8.3)
+-- a byte 0 before digits, where there is none or the first has its highest bit set (X.690, 8.3)
 abbrev pub sign : List ℕ → List ℕ
 sign [] = 0 ∷ []
 sign (digit ∷ digits) = if nat_lt digit 0x80 then [] else 0 ∷ []

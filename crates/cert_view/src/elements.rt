@@ -73,7 +73,7 @@ fn without_zeros(bytes: &[u8]) -> &[u8]
     rest
 }
 
-/// What stands in front of the digits of a number that is not negative (X.690, 8.3).
+/// What stands before the digits of a number that is not negative (X.690, 8.3).
 fn sign(digits: &[u8]) -> &[u8]
     ensures { result.now ≡ sign digits.now }
 {

@@ -160,7 +160,7 @@ own_layout at a b c d e f g last = record {
   extensions = last;
 }
 
--- the place behind seven parts
+-- the place after seven parts
 abbrev behind : ℕ → List ℕ → List ℕ → List ℕ → List ℕ → List ℕ → List ℕ → List ℕ → ℕ
 behind at a b c d e f g = at + length a + length b + length c + length d + length e + length f + length g
 

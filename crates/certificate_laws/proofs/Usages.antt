@@ -280,7 +280,7 @@ usage-sound part parts b said extension is usage lists others = record {
 abbrev more : Option Bool → Part → Result (Option Bool) CertFault → Result (Option Bool) CertFault
 more before p r = both (Ok before) r >>= λ (x : Option Bool × Option Bool). said_once p x.0 x.1
 
--- one more in front of those that were read
+-- one more before those that were read
 one-more : (part : List ℕ) (parts : List (List ℕ)) (at : ℕ) (before said : Option Bool) → IsRead part → ((first : Option Bool) → read.with_extensions (Ok first) (placed (at + length part) parts) ≡ Ok said → ExtensionsSound parts first said) → read.with_extensions (Ok before) (placed at (part ∷ parts)) ≡ Ok said → ExtensionsSound (part ∷ parts) before said
 one-more part parts at before said is_read others e = go before (read.extension (place at part)) refl e where
   go : (first : Option Bool) (r : Result (Option Bool) CertFault) → read.extension (place at part) ≡ r → read.with_extensions (more first (place at part) r) (placed (at + length part) parts) ≡ Ok said → ExtensionsSound (part ∷ parts) first said

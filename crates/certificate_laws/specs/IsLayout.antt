@@ -20,7 +20,7 @@ IsOptionalBefore tag (p ∷ (q ∷ ps)) others = ⊥
 abbrev pub as_read : Part → Result Part DerFault
 as_read p = Ok p
 
--- Seven parts, the unique identifiers [1] and [2], of which each may be missing, and at most one part behind them,
+-- Seven parts, the unique identifiers [1] and [2], of which each may be missing, and at most one part after them,
 -- the extensions. They all read, and there are no others.
 pub record IsLayout (parts : List (Result Part DerFault)) (l : Layout) : Type 0 where
   pub issuer_unique_id : List Part

@@ -72,15 +72,15 @@ body-sound t tag n bytes body rest e = elim (if-cases (nat_lt (length bytes) n) 
       (s.tag, ap length (sym s.body) ∙ length-take-le n bytes l, sym (take-append-drop n bytes) ∙ ap (λ x. x ++ drop n bytes) s.body ∙ ap (λ x. body ++ x) s.rest)
 ]
 
-abbrev pub behind_tag : ℕ → ℕ × List ℕ → Result First DerKind
-behind_tag tag x = body_at tag x.0 x.1
+abbrev pub after_tag : ℕ → ℕ × List ℕ → Result First DerKind
+after_tag tag x = body_at tag x.0 x.1
 
 pub first-sound : (bytes : List ℕ) (tag : ℕ) (body rest : List ℕ) → AreBytes bytes → first_at bytes ≡ found tag body rest → FirstIs bytes tag body rest
 unfolding first_at
 first-sound [] tag body rest are e = absurd (cc)
-first-sound (t ∷ bytes) tag body rest are e = elim (if-cases (t % 32 == 31) (Err HighTag) (length_at bytes >>= behind_tag t) (found tag body rest) e) [
+first-sound (t ∷ bytes) tag body rest are e = elim (if-cases (t % 32 == 31) (Err HighTag) (length_at bytes >>= after_tag t) (found tag body rest) e) [
   | inl h ↦ absurd (cc)
-  | inr h ↦ elim (bind-cases (length_at bytes) (behind_tag t) (found tag body rest) h.1) [
+  | inr h ↦ elim (bind-cases (length_at bytes) (after_tag t) (found tag body rest) h.1) [
     | inl b ↦
         let s = body-sound t tag b.value.0 b.value.1 body rest b.after in
         let l = length-sound bytes b.value.1 b.value.0 (bytes-behind (t ∷ []) bytes are) b.before in
@@ -173,14 +173,14 @@ empty-short = record { tag = 0; body = []; missing = 0 ∷ (0 ∷ []); some = so
 pub first-fault : (bytes : List ℕ) (kind : DerKind) → AreBytes bytes → first_at bytes ≡ Err kind → HasFault kind 0 bytes
 unfolding first_at
 first-fault [] kind are e = let q : Short ≡ kind = cc in subst (λ k. HasFault k 0 []) q (refl, empty-short)
-first-fault (t ∷ bytes) kind are e = elim (if-cases (t % 32 == 31) (Err HighTag) (length_at bytes >>= behind_tag t) (Err kind) e) [
+first-fault (t ∷ bytes) kind are e = elim (if-cases (t % 32 == 31) (Err HighTag) (length_at bytes >>= after_tag t) (Err kind) e) [
   | inl h ↦ let q : HighTag ≡ kind = cc in subst (λ k. HasFault k 0 (t ∷ bytes)) q (refl, record { tag = t; rest = bytes; high = eqb-true (t % 32) 31 h.0; whole = refl })
   | inr h ↦
       let low : t < 256 = are.each 0 in
       let ends : t % 32 ≡ 31 → ⊥ = eqb-false (t % 32) 31 h.0 in
       let own : IsTag t = (low, grind (arith, nat_tests)) in
       let others = bytes-behind (t ∷ []) bytes are in
-      elim (bind-cases (length_at bytes) (behind_tag t) (Err kind) h.1) [
+      elim (bind-cases (length_at bytes) (after_tag t) (Err kind) h.1) [
         | inl b ↦ by-body t bytes b.value.1 b.value.0 kind own (length-sound bytes b.value.1 b.value.0 others b.before) b.after
         | inr b ↦ let q : b.0 ≡ kind = (let z = b.2 in cc) in by-length t bytes kind own (length-fault bytes kind others (b.1 ∙ ap (λ k. Err k) q))
       ]

@@ -12,7 +12,7 @@ use Rattle.der_view.specs.Fault.{GoesOn, HasFault, IsFault}
 use Rattle.der_view.specs.Reading.{◌>>=◌, length_at, first_at, alone, reads, tag_of, body_of, tag_or_zero, body_or_none}
 use Rattle.der_view.specs.Parts.{Part, behind, AreParts, der, parted, first_part, with_others, parts_up_to, parts_at}
 use Rattle.der_view.proofs.Lengths.{AreBytes, bytes-behind, bytes-before, if-cases, length-shorter}
-use Rattle.der_view.proofs.Elements.{First, found, bind-cases, behind_tag, body-sound, first-sound, first-fault, element-reads}
+use Rattle.der_view.proofs.Elements.{First, found, bind-cases, after_tag, body-sound, first-sound, first-fault, element-reads}
 
 -- ---- the element at the front
 
@@ -199,9 +199,9 @@ beyond x = record { at = x.0.at + length x.0.bytes; bytes = x.1 }
 first-shorter : (bytes : List ℕ) (tag : ℕ) (body rest : List ℕ) → first_at bytes ≡ found tag body rest → length rest < length bytes
 unfolding first_at
 first-shorter [] tag body rest e = absurd (cc)
-first-shorter (t ∷ bytes) tag body rest e = elim (if-cases (t % 32 == 31) (Err HighTag) (length_at bytes >>= behind_tag t) (found tag body rest) e) [
+first-shorter (t ∷ bytes) tag body rest e = elim (if-cases (t % 32 == 31) (Err HighTag) (length_at bytes >>= after_tag t) (found tag body rest) e) [
   | inl h ↦ absurd (cc)
-  | inr h ↦ elim (bind-cases (length_at bytes) (behind_tag t) (found tag body rest) h.1) [
+  | inr h ↦ elim (bind-cases (length_at bytes) (after_tag t) (found tag body rest) h.1) [
     | inl b ↦
         let s = body-sound t tag b.value.0 b.value.1 body rest b.after in
         let l = length-shorter bytes b.value.1 b.value.0 b.before in

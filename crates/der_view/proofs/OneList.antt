@@ -30,9 +30,9 @@ some-element p q i e = let w = whole-of p q i in absurd (cc)
 
 -- ---- what begins with an element has no fault at its front
 
-behind-none : (xs ys : List ℕ) → xs ++ ys ≡ [] → ys ≡ []
-behind-none [] ys e = e
-behind-none (x ∷ xs) ys e = absurd (cc)
+after-none : (xs ys : List ℕ) → xs ++ ys ≡ [] → ys ≡ []
+after-none [] ys e = e
+after-none (x ∷ xs) ys e = absurd (cc)
 
 high-read : (tag : ℕ) (rest : List ℕ) → tag % 32 ≡ 31 → first_at (tag ∷ rest) ≡ Err HighTag
 unfolding first_at
@@ -48,7 +48,7 @@ no-fault p q Short i f =
     let a : first_at (p.bytes ++ e.missing) ≡ found i.tag i.body (rest ++ e.missing) = ap (λ x. first_at (x ++ e.missing)) (whole-of p q i) ∙ ap first_at (append_assoc (element i.tag i.body) rest e.missing) ∙ first-again i.tag i.body (rest ++ e.missing) i.is.is_tag in
     let b : first_at (p.bytes ++ e.missing) ≡ found e.tag e.body [] = ap first_at (e.is.spelled ∙ sym (append-nil (element e.tag e.body))) ∙ first-again e.tag e.body [] e.is.is_tag in
     let s = same-first i.tag e.tag i.body e.body (rest ++ e.missing) [] (sym a ∙ b) in
-    e.some (behind-none rest e.missing s.rest)
+    e.some (after-none rest e.missing s.rest)
 no-fault p q HighTag i f =
     let h = f.1 in
     let a = front-read p q i in

@@ -31,7 +31,7 @@ filter-alike p q (x ∷ xs) alike = rw (alike x, filter-alike p q xs alike) refl
 equal-texts : (a b : List ℕ) → (bytes_eq a b ≡ true) → a ≡ b
 equal-texts a b e = (bytes_eq-Decides a b).0 e
 
--- a text that was found already is passed over
+-- a text that was found already is ignored
 found-alike : (found : List (List ℕ)) (text : List ℕ) → has_text text found ≡ true → (other : List ℕ) →
     (not (bytes_eq text other) && not (has_text other found)) ≡ not (has_text other found)
 found-alike found text has other = either (bytes_eq text other) refl where
@@ -80,7 +80,7 @@ filter-all (x ∷ xs) = rw (filter-all xs) refl
 pub more-start : (rest : List (List ℕ)) → more [] rest ≡ firsts rest
 more-start rest = filter-all (firsts rest)
 
--- the texts from one on: it, and those behind it
+-- the texts from one on: it, and those after it
 pub texts-drop : (list : List (Bor (List ℕ))) (i : ℕ) (d : Bor (List ℕ)) → i < length list →
     texts (drop i list) ≡ (get_or list i d).now ∷ texts (drop (i + 1) list)
 texts-drop list i d h = rw (add-one, drop-cons list i d) refl

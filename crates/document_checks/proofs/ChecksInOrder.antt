@@ -1,4 +1,4 @@
--- How the talk of a run follows checks one behind the other.
+-- How the talk of a run follows checks one after the other.
 use Rattle.std.proofs.Common.{◌≡◌, List, Bool, true, false, Option, Some, None, Result, Ok, Err, subst, sym}
 use Rattle.document_checks.specs.Ending.{came_to}
 use Rattle.document_checks.specs.declared.stop.Stop as read

@@ -19,7 +19,7 @@ use Rattle.verdict_model.specs.declared.doc_check.DocCheck.TheVariants as checks
 abbrev pub is_issued : Signer → Plan (Result Bool Stop)
 is_issued signer = asked_of_device (verified signer.cert.tbs.key (signed_structure signer.auth.signed.protected signer.auth.payload) signer.auth.signed.signature)
 
--- what is looked at of the object behind that, which asks nothing
+-- what is looked at of the object after that, which asks nothing
 abbrev pub object_checks : ℤ → List ℕ → Signer → Plan (Result Object Stop)
 object_checks moment doc_type signer =
     needed checks.MsoForm (result_ok (object signer.auth.payload)) >>! λ o.

@@ -1,7 +1,7 @@
 -- What contracts see of what is read of a document, and of what it is judged by.
 use Rattle.cert_view.specs.Cert.{fields}
 use Rattle.cose_msgs.specs.MessageView.{authenticated, signed}
-use Rattle.mso_digests.specs.MsoView.{said}
+use Rattle.mso_digests.specs.MsoView.{object_seen}
 use Rattle.document_checks.specs.declared.device_proof.DeviceProof as proofs
 use Rattle.document_checks.specs.declared.device_proof.DeviceProof.TheVariants as ways
 use Rattle.document_checks.specs.declared.issued.Issued as issues
@@ -20,7 +20,7 @@ abbrev pub signer_seen : signers.Signer → Signer
 signer_seen s = record { auth = auth_seen s.auth; cert = fields s.cert }
 
 abbrev pub issued_seen : issues.Issued → Issued
-issued_seen it = record { object = said it.object; key = it.key }
+issued_seen it = record { object = object_seen it.object; key = it.key }
 
 abbrev pub proof_seen : proofs.DeviceProof → DeviceProof
 proof_seen (ways.BySignature s) = BySignature (signed s)

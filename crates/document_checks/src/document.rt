@@ -7,7 +7,7 @@ ghost use Rattle.key_device.specs.Gave.{Gave};
 ghost use Rattle.key_device.specs.Plan.{Follows};
 ghost use Rattle.key_device.specs.Recording.{inner, talk};
 ghost use Rattle.mso_digests.specs.Digests.{have_length};
-ghost use Rattle.mso_digests.specs.MsoView.{said};
+ghost use Rattle.mso_digests.specs.MsoView.{object_seen};
 ghost use Rattle.verdict_model.specs.Documents.{document_checks};
 ghost use Rattle.verdict_model.specs.Elements.{is_type_requested};
 ghost use Rattle.document_checks.specs.Checks.{issued_and_shown};
@@ -45,7 +45,7 @@ fn issued_and_shown<'a, D: KeyDevice>(
     device: &mut Recorder<D>,
 ) -> Result<Issued<'a>, Stop>
     ensures asked { Follows (issued_and_shown (setting_seen setting.now) (document_seen document.now)) (talk device.old) (talk device.new) (came_to issued_seen result) }
-    ensures lengths { IfOk result (λ it. have_length (said it.object).digests ≡ true) }
+    ensures lengths { IfOk result (λ it. have_length (object_seen it.object).digests ≡ true) }
     ensures gave { Gave D.gives D.unasked D.faults device.old device.new }
     ensures cause { HasCause Device Memory (D.faults (inner device.old)) (D.faults (inner device.new)) result }
 {
@@ -75,7 +75,7 @@ pub fn document_checks<'a, D: KeyDevice>(
     device: &mut Recorder<D>,
 ) -> Result<Issued<'a>, Stop>
     ensures asked { Follows (document_checks (setting_seen setting.now) (document_seen document.now)) (talk device.old) (talk device.new) (came_to issued_seen result) }
-    ensures lengths { IfOk result (λ it. have_length (said it.object).digests ≡ true) }
+    ensures lengths { IfOk result (λ it. have_length (object_seen it.object).digests ≡ true) }
     ensures gave { Gave D.gives D.unasked D.faults device.old device.new }
     ensures cause { HasCause Device Memory (D.faults (inner device.old)) (D.faults (inner device.new)) result }
 {

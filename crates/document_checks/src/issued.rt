@@ -7,7 +7,7 @@ ghost use Rattle.key_device.specs.Gave.{Gave};
 ghost use Rattle.key_device.specs.Plan.{Follows};
 ghost use Rattle.key_device.specs.Recording.{inner, talk};
 ghost use Rattle.mso_digests.specs.Digests.{have_length};
-ghost use Rattle.mso_digests.specs.MsoView.{said};
+ghost use Rattle.mso_digests.specs.MsoView.{object_seen};
 ghost use Rattle.verdict_model.specs.Issued.{issued};
 ghost use Rattle.document_checks.specs.Checks.{issued_object};
 ghost use Rattle.document_checks.specs.Ending.{came_to};
@@ -41,8 +41,8 @@ fn issued_object<'a, D: KeyDevice>(
     item: View<'a>,
     device: &mut Recorder<D>,
 ) -> Result<Mso<'a>, Stop>
-    ensures asked { Follows (issued_object setting.now.roots.now setting.now.moment doc_type.now (part item.entry)) (talk device.old) (talk device.new) (came_to said result) }
-    ensures lengths { IfOk result (λ object. have_length (said object).digests ≡ true) }
+    ensures asked { Follows (issued_object setting.now.roots.now setting.now.moment doc_type.now (part item.entry)) (talk device.old) (talk device.new) (came_to object_seen result) }
+    ensures lengths { IfOk result (λ object. have_length (object_seen object).digests ≡ true) }
     ensures gave { Gave D.gives D.unasked D.faults device.old device.new }
     ensures cause { HasCause Device Memory (D.faults (inner device.old)) (D.faults (inner device.new)) result }
 {
@@ -62,7 +62,7 @@ pub(crate) fn issuer_says<'a, D: KeyDevice>(
     device: &mut Recorder<D>,
 ) -> Result<Issued<'a>, Stop>
     ensures asked { Follows (issued setting.now.roots.now setting.now.moment doc_type.now (part item.entry)) (talk device.old) (talk device.new) (came_to issued_seen result) }
-    ensures lengths { IfOk result (λ it. have_length (said it.object).digests ≡ true) }
+    ensures lengths { IfOk result (λ it. have_length (object_seen it.object).digests ≡ true) }
     ensures gave { Gave D.gives D.unasked D.faults device.old device.new }
     ensures cause { HasCause Device Memory (D.faults (inner device.old)) (D.faults (inner device.new)) result }
 {

@@ -9,7 +9,7 @@ ghost use Rattle.key_device.specs.Gave.{Gave};
 ghost use Rattle.key_device.specs.Plan.{Done, Follows};
 ghost use Rattle.key_device.specs.Recording.{inner, talk};
 ghost use Rattle.mso_digests.specs.Digests.{have_length};
-ghost use Rattle.mso_digests.specs.MsoView.{said};
+ghost use Rattle.mso_digests.specs.MsoView.{object_seen};
 ghost use Rattle.verdict_model.specs.Issued.{device_key, object_of, timely};
 ghost use Rattle.verdict_model.specs.Steps.{asked_of_device};
 ghost use Rattle.document_checks.specs.Checks.{is_issued, object_checks};
@@ -31,7 +31,7 @@ use verdict_model::DocCheck;
 
 /// Whether the object was signed while the certificate was valid, and is valid at the moment.
 fn timely(setting: &Setting<'_>, cert: &Cert<'_>, object: &Mso<'_>) -> Result<(), DocCheck>
-    ensures { timely (fields cert.now) setting.now.moment (said object.now) ≡ Done (checked (λ u. u) result) }
+    ensures { timely (fields cert.now) setting.now.moment (object_seen object.now) ≡ Done (checked (λ u. u) result) }
 {
     if !is_valid(object.signed(), cert) {
         return Err(DocCheck::SignedTime {
@@ -61,8 +61,8 @@ fn object_in<'a>(
     doc_type: &str,
     signer: &Signer<'a>,
 ) -> Result<Mso<'a>, DocCheck>
-    ensures checks { object_checks setting.now.moment doc_type.now (signer_seen signer.now) ≡ Done (checked said result) }
-    ensures lengths { IfOk result (λ object. have_length (said object).digests ≡ true) }
+    ensures checks { object_checks setting.now.moment doc_type.now (signer_seen signer.now) ≡ Done (checked object_seen result) }
+    ensures lengths { IfOk result (λ object. have_length (object_seen object).digests ≡ true) }
 {
     let Ok(object) = Mso::read(signer.auth.payload) else {
         return Err(DocCheck::MsoForm);
@@ -106,8 +106,8 @@ pub(crate) fn object_of<'a, D: KeyDevice>(
     signer: &Signer<'a>,
     device: &mut Recorder<D>,
 ) -> Result<Mso<'a>, Stop>
-    ensures asked { Follows (object_of setting.now.moment doc_type.now (signer_seen signer.now)) (talk device.old) (talk device.new) (came_to said result) }
-    ensures lengths { IfOk result (λ object. have_length (said object).digests ≡ true) }
+    ensures asked { Follows (object_of setting.now.moment doc_type.now (signer_seen signer.now)) (talk device.old) (talk device.new) (came_to object_seen result) }
+    ensures lengths { IfOk result (λ object. have_length (object_seen object).digests ≡ true) }
     ensures gave { Gave D.gives D.unasked D.faults device.old device.new }
     ensures cause { HasCause Device Memory (D.faults (inner device.old)) (D.faults (inner device.new)) result }
 {
@@ -123,7 +123,7 @@ pub(crate) fn object_of<'a, D: KeyDevice>(
 
 /// The device key that an object names, where it is one of the curve P-256.
 pub(crate) fn device_key(object: &Mso<'_>) -> Option<Point>
-    ensures { result ≡ device_key (said object.now) }
+    ensures { result ≡ device_key (object_seen object.now) }
 {
     let Ok(item) = View::read(object.device_key().raw()) else {
         return None;

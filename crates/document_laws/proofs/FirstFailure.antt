@@ -116,7 +116,7 @@ time_stage s d cert o es outcome walk =
     (λ last_one. checked (checks.Expired o.until s.moment) (int_le s.moment o.until) (then_key s d o) es outcome _ last_one
     (key_stage s d o es outcome)))
 
--- what is looked at of an object behind its signature
+-- what is looked at of an object after its signature
 abbrev of_type : Setting → Document → Fields → Object → Plan (Result Object Stop)
 of_type s d cert o =
     check_that checks.DocTypeDiffers (bytes_eq o.doc_type d.doc_type) >>= λ typed.
@@ -153,8 +153,8 @@ to_object s d signer = object_of s.moment d.doc_type signer >>= to_key s d
 abbrev signed_list : Setting → Document → Option Fields → Option Object → Option Told → Option Told → List (Option DocCheck)
 signed_list s d cert found of_object of_device = unless (is_yes of_object) checks.IssuerSignature ∷ mso_list s d cert found of_device
 
-abbrev behind_signature : Setting → Document → Signer → Bool → Plan (Result Object Stop)
-behind_signature s d signer confirms = check_that checks.IssuerSignature confirms >>= λ held. needed checks.MsoForm (result_ok (object signer.auth.payload)) >>= of_type s d signer.cert
+abbrev after_signature : Setting → Document → Signer → Bool → Plan (Result Object Stop)
+after_signature s d signer confirms = check_that checks.IssuerSignature confirms >>= λ held. needed checks.MsoForm (result_ok (object signer.auth.payload)) >>= of_type s d signer.cert
 
 object_stage : (s : Setting) (d : Document) (signer : Signer) (es : List Exchange) (outcome : Result Issued Stop)
     → Walks (to_object s d signer) es [] [] outcome
@@ -162,8 +162,8 @@ object_stage : (s : Setting) (d : Document) (signer : Signer) (es : List Exchang
 object_stage s d signer [] outcome walk = absurd walk
 object_stage s d signer (e ∷ es) outcome walk =
     let asked = asked_of_device (verified signer.cert.tbs.key (signed_structure signer.auth.signed.protected signer.auth.payload) signer.auth.signed.signature) in
-    let next = regrouped asked (behind_signature s d signer) (to_key s d) (e ∷ es) outcome walk in
-    answered (λ (confirms : Bool). behind_signature s d signer confirms >>= to_key s d) e.told es outcome _ next.1
+    let next = regrouped asked (after_signature s d signer) (to_key s d) (e ∷ es) outcome walk in
+    answered (λ (confirms : Bool). after_signature s d signer confirms >>= to_key s d) e.told es outcome _ next.1
     (λ said. checked checks.IssuerSignature (is_yes (Some e.told)) _ es outcome _
     (regrouped (check_that checks.IssuerSignature (is_yes (Some e.told))) (λ (u : Unit {0}). needed checks.MsoForm (result_ok (object signer.auth.payload)) >>= of_type s d signer.cert) (to_key s d) es outcome said)
     (mso_stage s d signer.cert (result_ok (object signer.auth.payload)) es outcome))

@@ -17,7 +17,7 @@ use Rattle.verdict_model.specs.declared.doc_check.DocCheck.{DocCheck}
 use Rattle.document_laws.specs.Found.{confirmed, is_yes, named_roots}
 use Rattle.document_laws.proofs.Walks.{Agrees, unanswered}
 
--- how a walk goes on behind the search
+-- how a walk goes on after the search
 abbrev pub GoesOn : (Option Root → Plan (Result Issued Stop)) → Option (Root × List Exchange) → Result Issued Stop → List (Option DocCheck) → Type 0
 GoesOn f at outcome list =
     ((root : Root) (rest : List Exchange) → at ≡ Some (root, rest) → Walks (f (Some root)) rest [] [] outcome → Agrees list outcome)

@@ -37,7 +37,7 @@ pub refused : (check : DocCheck) (list : List (Option DocCheck)) (es : List Exch
     → first_failure list ≡ Some check → Walks (stopped (Refused check)) es [] [] outcome → Agrees list outcome
 refused check list es outcome is walk = subst (Agrees list) (sym (ended (Refused check) es outcome walk)) (record { says = is })
 
--- the list goes on behind a check that holds
+-- the list goes on after a check that holds
 pub passed : (list : List (Option DocCheck)) (outcome : Result Issued Stop) → Agrees list outcome → Agrees (None ∷ list) outcome
 passed list outcome agrees = record { says = agrees.says }
 

@@ -45,7 +45,7 @@ is_yes told = false
 abbrev pub named_roots : List Root → Fields → List Root
 named_roots roots cert = filter (λ (root : Root). is_named cert (certificate (listed root).bytes)) roots
 
--- Roots are asked about one after the other, up to the first yes: the root of which that was told, and what was told behind
+-- Roots are asked about one after the other, up to the first yes: the root of which that was told, and what was told after
 -- it.
 abbrev pub confirmed : List Root → List Exchange → Option (Root × List Exchange)
 confirmed [] talk = None

@@ -6,7 +6,7 @@ ghost use Rattle.cbor_view.specs.View.{part};
 ghost use Rattle.doc_response.specs.ResponseItems.{items_left};
 ghost use Rattle.issuer_items.specs.ItemView.{fields};
 ghost use Rattle.mso_digests.specs.Digests.{have_length};
-ghost use Rattle.mso_digests.specs.MsoView.{said};
+ghost use Rattle.mso_digests.specs.MsoView.{object_seen};
 ghost use Rattle.element_checks.specs.ElementNames.{has_name};
 ghost use Rattle.element_checks.specs.FirstCheck.{HaveLength, element_verdict};
 ghost use Rattle.verdict_model.specs.Elements.{element_verdicts, is_accepted};
@@ -106,8 +106,8 @@ pub fn element_verdicts(
     object: &Mso<'_>,
     items: ResponseItems<'_>,
 ) -> Result<Rows<ElementVerdict>, Memory>
-    requires { have_length (said object.now).digests ≡ true }
-    ensures { IfOk result (λ verdicts. verdicts ≡ element_verdicts request.now (said object.now) (items_left items.entry)) }
+    requires { have_length (object_seen object.now).digests ≡ true }
+    ensures { IfOk result (λ verdicts. verdicts ≡ element_verdicts request.now (object_seen object.now) (items_left items.entry)) }
 {
     let digests = object.index(alloc)?;
     let requested = requested_elements(alloc, request, object.doc_type())?;

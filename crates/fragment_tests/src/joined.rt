@@ -128,7 +128,7 @@ const TABLE: [Given; 10] = [
     Given::State(3),
 ];
 
-// What ends a list at this fragment, whatever stands in front of it.
+// What ends a list at this fragment, whatever stands before it.
 fn ends_by(alloc: Global, given: Given) -> Result<Option<String>, Fail> {
     Ok(match given {
         Given::Data([]) => Some(String::from_str(alloc, "EmptyFragment")?),

@@ -12,7 +12,7 @@ use std::alloc::Global;
 use std::process::Abort;
 use verdict_model::{DocCheck, ElementCheck};
 
-/// The licence, up to its portrait, and behind it.
+/// The licence, up to its portrait, and after it.
 const BEFORE_PORTRAIT: &str = "type org.iso.18013.5.1.mDL
 auth sig
 copies 2
@@ -39,7 +39,7 @@ element org.iso.18013.5.1 age_over_18 bool true
 /// The bytes of the portrait, each 0.
 const PORTRAIT: usize = 30_000;
 
-/// 2024-07-01T00:00:00Z, and a second behind the licence's last one.
+/// 2024-07-01T00:00:00Z, and a second after the licence's last one.
 const WITHIN: i64 = 1_719_792_000;
 
 const BEHIND: i64 = 1_861_920_001;

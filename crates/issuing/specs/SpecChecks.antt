@@ -40,7 +40,7 @@ says_early (Until moment) = is_early moment
 says_early (Update moment) = is_early moment
 says_early other = false
 
--- A header line is bad whose keyword stands before, that stands behind an element, or that says a time
+-- A header line is bad whose keyword stands before, that stands after an element, or that says a time
 -- before 1950 in a file with new certificates.
 abbrev pub is_bad_header : Bool → SpecHeader → SoFar → Bool
 is_bad_header new header so_far =

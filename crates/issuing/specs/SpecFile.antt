@@ -1,6 +1,6 @@
 -- A spec file (this project's own): what the issuing authority puts into the copies of a document. It has
 -- lines `type`, `auth`, `copies`, `signer`, `signed`, `from`, `until` and, where it has one, `update`, each
--- once and in any order, and behind them one line `element` or more.
+-- once and in any order, and after them one line `element` or more.
 --
 -- The fault of a file is that of its first bad line, from the top; else a lack at its end; else that of the whole.
 use Rattle.std.specs.Prelude.{◌≡◌, ℕ, max, List, [], ◌∷◌, ◌++◌, length, Bool, Option, Some, None, Result, Ok, Err}

@@ -7,7 +7,7 @@ use Rattle.cbor_view.specs.Shortest.{text_bytes, tag_bytes, uint_bytes, boolean_
 use Rattle.cbor_view.specs.Tree.{Tree, levels}
 use Rattle.cbor_view.specs.declared.cbor_fault.CborFault.{CborFault}
 use Rattle.mdoc_outside.specs.OptionSteps.{◌>>=◌, where_true}
-use Rattle.issuing.specs.SpecWords.{number_of, truth_of, bytes_of, date_of, behind_four_words, behind_space}
+use Rattle.issuing.specs.SpecWords.{number_of, truth_of, bytes_of, date_of, after_four_words, after_space}
 
 -- whether bytes spell one item of at most 31 levels of nesting
 abbrev pub is_shallow : Result Tree CborFault → Bool
@@ -46,7 +46,7 @@ value_of kind word =
 -- `text` and the rest of the line after one space, as UTF-8
 abbrev pub text_value : List ℕ → Option (List ℕ)
 text_value bytes = do
-  said ← behind_space (behind_four_words bytes)
+  said ← after_space (after_four_words bytes)
   where_true (is_utf8 said) (text_bytes said)
 
 abbrev pub one_word : List ℕ → List (List ℕ) → Option (List ℕ)

@@ -35,17 +35,17 @@ bytes_of word = if bytes_eq word (codes "-") then Some [] else result_ok (decode
 abbrev pub date_of : List ℕ → Option (List ℕ)
 date_of word = where_true (has_form (codes "0000-00-00") word) word
 
--- what stands behind the first word, from a space on
+-- what stands after the first word, from a space on
 abbrev pub behind_word : List ℕ → List ℕ
 behind_word [] = []
 behind_word (b ∷ bytes) = if b == 32 then b ∷ bytes else behind_word bytes
 
--- what stands behind four words of a line, from a space on
-abbrev pub behind_four_words : List ℕ → List ℕ
-behind_four_words bytes =
+-- what stands after four words of a line, from a space on
+abbrev pub after_four_words : List ℕ → List ℕ
+after_four_words bytes =
     behind_word (after_spaces (behind_word (after_spaces (behind_word (after_spaces (behind_word (after_spaces bytes)))))))
 
--- what stands behind one space
-abbrev pub behind_space : List ℕ → Option (List ℕ)
-behind_space [] = None
-behind_space (b ∷ bytes) = where_true (b == 32) bytes
+-- what stands after one space
+abbrev pub after_space : List ℕ → Option (List ℕ)
+after_space [] = None
+after_space (b ∷ bytes) = where_true (b == 32) bytes

@@ -4,7 +4,7 @@ ghost use Rattle.std.specs.Prelude.{◌≡◌, ℕ, List, IfOk, IfSome, IsTrue, 
 ghost use Rattle.std.specs.Borrow.{Bor};
 ghost use Rattle.issuing.specs.SpecValue.{is_value, date_value, uint_value, bool_value, bytes_value, cbor_value, value_of, text_value, one_word, value_in};
 
-use crate::spec_words::{behind_four_words_and_space, bytes_of, date_of, number_of, truth_of};
+use crate::spec_words::{after_four_words_and_space, bytes_of, date_of, number_of, truth_of};
 use cbor_view::View;
 use cbor_write::Build;
 use mdoc_outside::{Memory, Octets};
@@ -123,7 +123,7 @@ fn text_value(alloc: Global, bytes: &[u8]) -> Result<Option<Octets>, Memory>
     ensures exact { IfOk result (λ value. value ≡ text_value bytes.now) }
     ensures item { IfOk result (λ value. IfSome value (λ v. IsTrue (is_value v))) }
 {
-    let Some(said) = behind_four_words_and_space(bytes) else {
+    let Some(said) = after_four_words_and_space(bytes) else {
         return Ok(None);
     };
     let Ok(text) = str::from_utf8(said) else {

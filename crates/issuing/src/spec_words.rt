@@ -9,7 +9,7 @@ ghost use Rattle.mdl_table.specs.Form.{has_form, stands_for};
 ghost use Rattle.mdoc_outside.specs.FileLine.{line};
 ghost use Rattle.mdoc_outside.specs.Lines.{after_spaces, words};
 ghost use Rattle.mdoc_outside.specs.WordForm.{is_name};
-ghost use Rattle.issuing.specs.SpecWords.{name_of, number_of, number_within, truth_of, bytes_of, date_of, behind_word, behind_four_words, behind_space};
+ghost use Rattle.issuing.specs.SpecWords.{name_of, number_of, number_within, truth_of, bytes_of, date_of, behind_word, after_four_words, after_space};
 
 use hex::FromHexError;
 use mdoc_outside::{FileLine, Memory, Octets, is_name};
@@ -159,7 +159,7 @@ fn after_spaces(bytes: &[u8]) -> &[u8]
     left
 }
 
-/// What stands behind the first word, from a space on.
+/// What stands after the first word, from a space on.
 fn behind_word(bytes: &[u8]) -> &[u8]
     ensures { result.now ≡ behind_word bytes.now }
 {
@@ -173,19 +173,19 @@ fn behind_word(bytes: &[u8]) -> &[u8]
     left
 }
 
-/// What stands behind four words of a line, from a space on.
-fn behind_four_words(bytes: &[u8]) -> &[u8]
-    ensures { result.now ≡ behind_four_words bytes.now }
+/// What stands after four words of a line, from a space on.
+fn after_four_words(bytes: &[u8]) -> &[u8]
+    ensures { result.now ≡ after_four_words bytes.now }
 {
     let two = behind_word(after_spaces(behind_word(after_spaces(bytes))));
     behind_word(after_spaces(behind_word(after_spaces(two))))
 }
 
-/// What stands behind four words of a line and one space.
-pub(crate) fn behind_four_words_and_space(bytes: &[u8]) -> Option<&[u8]>
-    ensures { option_map (λ t. t.now) result ≡ behind_space (behind_four_words bytes.now) }
+/// What stands after four words of a line and one space.
+pub(crate) fn after_four_words_and_space(bytes: &[u8]) -> Option<&[u8]>
+    ensures { option_map (λ t. t.now) result ≡ after_space (after_four_words bytes.now) }
 {
-    match behind_four_words(bytes) {
+    match after_four_words(bytes) {
         [b' ', rest @ ..] => Some(rest),
         _ => None,
     }

@@ -1,4 +1,4 @@
-//! A verdict as lines of text: each check by its name, with its values behind it.
+//! A verdict as lines of text: each check by its name, with its values after it.
 
 use mdoc_outside::Octets;
 use std::alloc::Global;
@@ -12,7 +12,7 @@ fn name_of(alloc: Global, name: &str) -> Option<String> {
     Some(text)
 }
 
-/// A name with two digests or codes behind it.
+/// A name with two digests or codes after it.
 fn with_both(alloc: Global, name: &str, kept: &[u8; 32], made: &[u8; 32]) -> Option<String> {
     let kept = hex::encode(alloc, &kept[..]).ok()?;
     let made = hex::encode(alloc, &made[..]).ok()?;

@@ -45,7 +45,7 @@ begins_nothing (Then ask next) = tt
 begins_nothing (Other ask next) = tt
 begins_nothing (Draw next) = tt
 
--- the beginning of a plan is one of the plan with more behind it
+-- the beginning of a plan is one of the plan with more after it
 pub begins_front : {A B : Type 0} (p : Plan A) (f : A → Plan B) (es os : List Exchange) (ws : List ℕ) → Begins p es os ws → Begins (bind p f) es os ws
 begins_front (Done x) f [] [] [] first = begins_nothing (f x)
 begins_front (Done x) f [] [] (w ∷ ws) first = absurd first

@@ -1,4 +1,4 @@
--- How the talks and words of a run follow plans one behind the other: up to a first fault, for each of
+-- How the talks and words of a run follow plans one after the other: up to a first fault, for each of
 -- a list, up to a first yes, and step by step over a state.
 use Rattle.std.proofs.Common.{◌≡◌, ◌+◌, ◌-◌, ◌<◌, ◌≤◌, ℕ, suc, List, [], ◌∷◌, ◌++◌, Bool, true, false, length, take, drop, get_or, replicate, Option, Some, None, Result, Ok, Err, refl, sym, ◌∙◌, ap, subst, add-one, drop-cons, arith}
 use Rattle.std.proofs.Math.Seq.{take-suc}
@@ -9,7 +9,7 @@ use Rattle.key_device.specs.Plan.{Plan, Done, End, Came, Undealt, Wanting, Follo
 use Rattle.key_device.specs.PlanSteps.{unless_fault, ◌>>=◌, each, times, first_yes, folded, turned}
 use Rattle.key_device.specs.declared.exchange.Exchange.{Exchange}
 
--- what a part of a list came to, behind the values of the part before
+-- what a part of a list came to, after the values of the part before
 abbrev pub with_front : {Y E : Type 0} → List Y → End (Result (List Y) E) → End (Result (List Y) E)
 with_front front Wanting = Wanting
 with_front front Undealt = Undealt
@@ -105,7 +105,7 @@ all_each_paused {X} {Y} {E} step xs i {one} {other} {one'} {other'} {dealt} {dea
     subst (λ (all : List X). FollowsAll (each step all) one other dealt one' other' dealt' Wanting) (take-append-drop i xs)
     (each_joined step (take i xs) (drop i xs) ys Wanting first (all_unasked refl refl refl))
 
--- and behind one.
+-- and after one.
 pub all_each_left : {X Y E : Type 0} (step : X → Plan (Result Y E)) (xs : List X) (i : ℕ) {one other one' other' one'' other'' : List Exchange} {dealt dealt' dealt'' : List ℕ} {ys : List Y} (x : X) (y : Y)
     → FollowsAll (each step (take i xs)) one other dealt one' other' dealt' (Came (Ok ys)) → i < length xs → x ≡ get_or xs i x
     → FollowsAll (step x) one' other' dealt' one'' other'' dealt'' (Came (Ok y)) → FollowsAll (each step xs) one other dealt one'' other'' dealt'' Wanting
@@ -166,7 +166,7 @@ all_times_paused {Y} {E} plan i n {one} {other} {one'} {other'} {dealt} {dealt'}
     subst (λ (m : ℕ). FollowsAll (times m plan) one other dealt one' other' dealt' Wanting) all
     (again i (n - i) plan ys Wanting first (all_unasked refl refl refl))
 
--- and behind one.
+-- and after one.
 pub all_times_left : {Y E : Type 0} (plan : Plan (Result Y E)) (i n : ℕ) {one other one' other' one'' other'' : List Exchange} {dealt dealt' dealt'' : List ℕ} {ys : List Y} (y : Y)
     → FollowsAll (times i plan) one other dealt one' other' dealt' (Came (Ok ys)) → i < n
     → FollowsAll plan one' other' dealt' one'' other'' dealt'' (Came (Ok y)) → FollowsAll (times n plan) one other dealt one'' other'' dealt'' Wanting

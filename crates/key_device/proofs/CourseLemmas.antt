@@ -1,20 +1,20 @@
--- The course of a plan behind a plan.
+-- The course of a plan after a plan.
 use Rattle.std.proofs.Common.{◌≡◌, ℕ, List, [], ◌∷◌, ◌++◌, Option, Some, None, refl, sym, ◌∙◌, ap}
 use Rattle.key_device.specs.Plan.{Plan, Done, Then, Other, Draw, bind, Course, with_question, with_question_other, over_all}
 use Rattle.key_device.specs.Tape.{answer_of, tape_after}
 use Rattle.key_device.specs.declared.ask.Ask.{Ask}
 use Rattle.key_device.specs.declared.exchange.Exchange.{Exchange}
 
--- questions behind questions
-abbrev pub behind_questions : {B : Type 0} → List Ask → List Ask → Course B → Course B
-behind_questions qs os course = record course { questions = qs ++ course.questions; questions_other = os ++ course.questions_other }
+-- questions after questions
+abbrev pub after_questions : {B : Type 0} → List Ask → List Ask → Course B → Course B
+after_questions qs os course = record course { questions = qs ++ course.questions; questions_other = os ++ course.questions_other }
 
 -- how a course goes on: over what it left, by the plan that its outcome calls for
 abbrev pub went_on : {A B : Type 0} → (A → Plan B) → Course A → Option A → Course B
 went_on f course None =
     record { questions = course.questions; questions_other = course.questions_other; outcome = None; left = course.left; left_other = course.left_other; left_words = course.left_words }
 went_on f course (Some a) =
-    behind_questions course.questions course.questions_other (over_all (f a) course.left course.left_other course.left_words)
+    after_questions course.questions course.questions_other (over_all (f a) course.left course.left_other course.left_words)
 
 question_on : {A B : Type 0} (f : A → Plan B) (ask : Ask) (course : Course A) (outcome : Option A)
     → with_question ask (went_on f course outcome) ≡ went_on f (with_question ask course) outcome
@@ -26,7 +26,7 @@ question_other_on : {A B : Type 0} (f : A → Plan B) (ask : Ask) (course : Cour
 question_other_on f ask course None = refl
 question_other_on f ask course (Some a) = refl
 
--- a plan with another one behind it, over tapes and words
+-- a plan with another one after it, over tapes and words
 pub over_bind : {A B : Type 0} (p : Plan A) (f : A → Plan B) (tape other : List Exchange) (words : List ℕ)
     → over_all (bind p f) tape other words ≡ went_on f (over_all p tape other words) (over_all p tape other words).outcome
 over_bind (Done a) f tape other words = refl
@@ -43,9 +43,9 @@ went_on_same : {A B : Type 0} (f g : A → Plan B) (course : Course A) (outcome 
     → ((a : A) → outcome ≡ Some a → over_all (g a) course.left course.left_other course.left_words ≡ over_all (f a) course.left course.left_other course.left_words)
     → went_on g course outcome ≡ went_on f course outcome
 went_on_same f g course None same = refl
-went_on_same f g course (Some a) same = ap (behind_questions course.questions course.questions_other) (same a refl)
+went_on_same f g course (Some a) same = ap (after_questions course.questions course.questions_other) (same a refl)
 
--- plans of one course with plans of one course behind them are of one course
+-- plans of one course with plans of one course after them are of one course
 pub over_same : {A B : Type 0} (p q : Plan A) (f g : A → Plan B) (tape other : List Exchange) (words : List ℕ)
     → over_all q tape other words ≡ over_all p tape other words
     → ((a : A) → (over_all p tape other words).outcome ≡ Some a
@@ -58,7 +58,7 @@ over_same p q f g tape other words same rest =
     ∙ went_on_same f g (over_all p tape other words) (over_all p tape other words).outcome rest
     ∙ sym (over_bind p f tape other words)
 
--- the outcome of a plan behind one that came to this outcome
+-- the outcome of a plan after one that came to this outcome
 pub outcome_bind : {A B : Type 0} (p : Plan A) (f : A → Plan B) (tape other : List Exchange) (words : List ℕ) (a : A)
     → (over_all p tape other words).outcome ≡ Some a
     → (over_all (bind p f) tape other words).outcome

@@ -19,7 +19,7 @@ use Rattle.key_device.specs.declared.replay_device.ReplayDevice.{ReplayDevice}
 use Rattle.key_device.specs.declared.told.Told.{Told}
 use Rattle.key_device.specs.declared.toy_device.ToyDevice.{ToyDevice}
 
--- counts behind counts
+-- counts after counts
 counts_both : (one two : Bool) (before mid now : ℕ) → Counts one before mid → Counts two mid now → Counts (one || two) before now
 counts_both true true before mid now first second = (omega (arith, first.0, first.1, second.1), omega (arith, first.1, second.1))
 counts_both true false before mid now first second = (omega (arith, first.0, second), omega (arith, first.1, second))

@@ -1,4 +1,4 @@
--- What a run of a plan with another one behind it shows of each of them.
+-- What a run of a plan with another one after it shows of each of them.
 use Rattle.std.proofs.Common.{◌≡◌, ◌⊎◌, inl, inr, ℕ, List, [], ◌∷◌, ◌++◌, Option, refl, sym, ◌∙◌, ap, subst, append_assoc}
 use Rattle.key_device.proofs.AllPlanLemmas.{by_one, wrap}
 use Rattle.key_device.proofs.OverLemmas.{gained_is, fits_same}

@@ -30,7 +30,7 @@ regrouped {A} {B} {C} {E} p f g = bind_bind p (unless_fault f) (unless_fault g) 
     both (Ok a) = refl
     both (Err e) = refl
 
--- equal steps behind a plan
+-- equal steps after a plan
 pub same_steps : {A B E : Type 0} (p : Plan (Result A E)) (f g : A → Plan (Result B E)) → ((a : A) → f a ≡ g a) → p >>= f ≡ p >>= g
 same_steps {A} {B} {E} p f g same = bind_same p (unless_fault f) (unless_fault g) both
   where
@@ -38,7 +38,7 @@ same_steps {A} {B} {E} p f g same = bind_same p (unless_fault f) (unless_fault g
     both (Ok a) = same a
     both (Err e) = refl
 
--- values behind those that are there
+-- values after those that are there
 abbrev pub behind : {Y E : Type 0} → List Y → List Y → Plan (Result (List Y) E)
 behind front back = Done (Ok (front ++ back))
 
@@ -58,7 +58,7 @@ each_append {X} {Y} {E} step (x ∷ front) back =
     ∙ sym (regrouped (each step front) (behind (y ∷ [])) (λ ys. each step back >>= behind ys)))
     ∙ sym (regrouped (step x) (λ y. each step front >>= behind (y ∷ [])) (λ ys. each step back >>= behind ys))
 
--- what is left of a search behind what it found so far
+-- what is left of a search after what it found so far
 abbrev pub unless_found : {X E : Type 0} → Plan (Result (Option X) E) → Option X → Plan (Result (Option X) E)
 unless_found rest None = rest
 unless_found rest (Some x) = Done (Ok (Some x))

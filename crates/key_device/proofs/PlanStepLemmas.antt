@@ -1,4 +1,4 @@
--- How the talk of a run with one device follows plans one behind the other: up to a first fault, for
+-- How the talk of a run with one device follows plans one after the other: up to a first fault, for
 -- each of a list, up to a first yes, and step by step over a state.
 use Rattle.std.proofs.Common.{◌≡◌, ◌+◌, ◌<◌, ◌≤◌, ℕ, List, [], ◌∷◌, ◌++◌, Bool, true, false, length, take, get_or, Some, None, Result, Ok, Err}
 use Rattle.key_device.proofs.AllPlanLemmas.{wrap, by_one}
@@ -35,7 +35,7 @@ pub each_paused : {X Y E : Type 0} (step : X → Plan (Result Y E)) (xs : List X
     → Follows (each step (take i xs)) old new (Some (Ok ys)) → Follows (each step xs) old new None
 each_paused step xs i first = wrap (all.all_each_paused step xs i (by_one [] [] first))
 
--- and behind one.
+-- and after one.
 pub each_left : {X Y E : Type 0} (step : X → Plan (Result Y E)) (xs : List X) (i : ℕ) {old mid new : List Exchange} {ys : List Y} (x : X) (y : Y)
     → Follows (each step (take i xs)) old mid (Some (Ok ys)) → i < length xs → x ≡ get_or xs i x
     → Follows (step x) mid new (Some (Ok y)) → Follows (each step xs) old new None
@@ -70,7 +70,7 @@ pub times_paused : {Y E : Type 0} (plan : Plan (Result Y E)) (i n : ℕ) {old ne
     → Follows (times i plan) old new (Some (Ok ys)) → i ≤ n → Follows (times n plan) old new None
 times_paused plan i n first within = wrap (all.all_times_paused plan i n (by_one [] [] first) within)
 
--- and behind one.
+-- and after one.
 pub times_left : {Y E : Type 0} (plan : Plan (Result Y E)) (i n : ℕ) {old mid new : List Exchange} {ys : List Y} (y : Y)
     → Follows (times i plan) old mid (Some (Ok ys)) → i < n → Follows plan mid new (Some (Ok y)) → Follows (times n plan) old new None
 times_left plan i n y first within second = wrap (all.all_times_left plan i n y (by_one [] [] first) within (by_one [] [] second))

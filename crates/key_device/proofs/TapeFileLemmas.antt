@@ -50,13 +50,13 @@ no_bytes : (bytes : List ℕ) → (length bytes == 0) ≡ true → bytes ≡ []
 no_bytes [] empty = refl
 no_bytes (byte ∷ bytes) empty = grind arith
 
--- nothing is left behind the last line feed
+-- nothing is left after the last line feed
 pub read_end : (n : ℕ) (front : List Exchange) (rest : List ℕ) → (length rest == 0) ≡ true
     → with_front front (exchanges_of n (tape_parts rest)) ≡ Ok front
 unfolding exchanges_of
 read_end n front rest empty = rw (no_bytes rest empty) (ap Ok (append-nil front))
 
--- something is left behind the last line feed
+-- something is left after the last line feed
 pub read_rest : (n : ℕ) (front : List Exchange) (rest : List ℕ) → tape_parts rest ≡ rest ∷ [] → false ≡ (length rest == 0)
     → with_front front (exchanges_of n (tape_parts rest)) ≡ Err n
 unfolding exchanges_of

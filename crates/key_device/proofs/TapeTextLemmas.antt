@@ -1,4 +1,4 @@
--- Texts put one behind the other.
+-- Texts put one after the other.
 use Rattle.std.proofs.Common.{◌≡◌, ℕ, ◌+◌, ◌<◌, List, ◌∷◌, ◌++◌, length, drop, get_or, sym, ◌∙◌, ap, append_assoc, codes, suc, add-one, drop-cons}
 use Rattle.key_device.specs.TapeText.{line_text, tape_text}
 use Rattle.key_device.specs.declared.exchange.Exchange.{Exchange}

@@ -45,10 +45,10 @@ one_more_line es e lines line = All-append HasLine es (e ∷ []) lines (all_one 
     all_one d one zero other within = one
     all_one d one (suc k) other within = absurd (omega arith)
 
-pub lines_behind : (n : ℕ) (es : List Exchange) → All HasLine es → All HasLine (drop n es)
-lines_behind zero es all = all
-lines_behind (suc n) [] all = all
-lines_behind (suc n) (e ∷ es) all = lines_behind n es (All-tail HasLine e es all)
+pub lines_after : (n : ℕ) (es : List Exchange) → All HasLine es → All HasLine (drop n es)
+lines_after zero es all = all
+lines_after (suc n) [] all = all
+lines_after (suc n) (e ∷ es) all = lines_after n es (All-tail HasLine e es all)
 
 -- and answers by what was told
 pub answers_as_told : AnswersAsTold

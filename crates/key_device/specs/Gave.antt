@@ -19,7 +19,7 @@ Calls gives unasked faults before None after = unasked before after × (faults a
 Calls gives unasked faults before (Some e) after =
     gives before e.ask e.told after × Counts (is_failed e.told) (faults before) (faults after)
 
--- calls, one behind the other
+-- calls, one after the other
 abbrev pub Runs : {D : Type 0} → (D → Ask → Told → D → Type 0) → (D → D → Type 0) → (D → ℕ) → D → List (Option Exchange) → D → Type 0
 Runs gives unasked faults before [] after = after ≡ before
 Runs {D} gives unasked faults before (call ∷ calls) after =

@@ -71,7 +71,7 @@ IsUndealtOverAllThatWasLeft A =
       left_words = [];
     }
 
--- a count of faults behind exchanges: one more for each that was told `Failed`, up to its last value
+-- a count of faults after exchanges: one more for each that was told `Failed`, up to its last value
 abbrev pub counted_on : ℕ → List Exchange → ℕ
 counted_on count [] = count
 counted_on count (e ∷ es) = counted_on (count_after e.told count) es

@@ -93,7 +93,7 @@ pub record FollowsBoth {A B : Type 0} (first : Plan A) (second : A → Plan B)
   pub before : FollowsAll first one other dealt between between_other between_words (Came middle)
   pub behind : FollowsAll (second middle) between between_other between_words one' other' dealt' end
 
--- A law: where a plan with another one behind it was followed to an outcome, each of them was.
+-- A law: where a plan with another one after it was followed to an outcome, each of them was.
 abbrev pub IsFollowedInParts : Type 0 → Type 0 → Type 0
 IsFollowedInParts A B =
     (first : Plan A) (second : A → Plan B) (one other one' other' : List Exchange) (dealt dealt' : List ℕ) (outcome : B)

@@ -1,4 +1,4 @@
--- Plans one behind the other: up to a first fault, for each of a list, up to a first yes, and step by
+-- Plans one after the other: up to a first fault, for each of a list, up to a first yes, and step by
 -- step over a state.
 use Rattle.std.specs.Prelude.{ℕ, List, [], ◌∷◌, Bool, true, false, Option, Some, None, Result, Ok, Err, replicate}
 use Rattle.key_device.specs.Plan.{Plan, Done, bind}
@@ -33,7 +33,7 @@ unless_yes x rest true = Done (Ok (Some x))
 unless_yes x rest false = rest
 
 -- The first of a list to which a plan says yes. It stops there, ends at the first fault, and finds
--- none behind the last no.
+-- none after the last no.
 abbrev pub first_yes : {X E : Type 0} → (X → Plan (Result Bool E)) → List X → Plan (Result (Option X) E)
 first_yes says [] = Done (Ok None)
 first_yes says (x ∷ xs) = says x >>= unless_yes x (first_yes says xs)

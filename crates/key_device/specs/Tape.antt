@@ -47,7 +47,7 @@ abbrev pub is_failed : Told → Bool
 is_failed tells.Failed = true
 is_failed told = false
 
--- a count of faults behind what was told: one more where that is that the device failed
+-- a count of faults after what was told: one more where that is that the device failed
 abbrev pub count_after : Told → ℕ → ℕ
 count_after told count = if is_failed told then one_more count else count
 

@@ -1,4 +1,4 @@
--- A tape file: a line for each exchange, and a line feed behind each line.
+-- A tape file: a line for each exchange, and a line feed after each line.
 use Rattle.std.specs.Prelude.{◌≡◌, ℕ, ◌+◌, ◌==◌, List, [], ◌∷◌, Result, Ok, Err}
 use Rattle.std.specs.List.{slice_split}
 use Rattle.mdoc_outside.specs.ResultSteps.{◌>>=◌, or_fault}
@@ -7,13 +7,13 @@ use Rattle.key_device.specs.declared.exchange.Exchange.{Exchange}
 use Rattle.key_device.specs.declared.tape_fault.TapeFault.{TapeFault}
 use Rattle.key_device.specs.declared.tape_fault.TapeFault.TheVariants.{Line, Memory}
 
--- what stands behind the last line feed: nothing, else it is a bad line of that number
+-- what stands after the last line feed: nothing, else it is a bad line of that number
 abbrev pub tape_end : ℕ → List ℕ → Result (List Exchange) ℕ
 tape_end n [] = Ok []
 tape_end n bytes = Err n
 
 -- The exchanges of lines that are numbered from n on and each end with a line feed, with what
--- stands behind the last one; else the number of the first line that says no exchange.
+-- stands after the last one; else the number of the first line that says no exchange.
 unfoldable pub exchanges_of : ℕ → List (List ℕ) → Result (List Exchange) ℕ
 exchanges_of n [] = Ok []
 exchanges_of n (rest ∷ []) = tape_end n rest

@@ -25,7 +25,7 @@ ask_text (Sign key message) = codes "sign " ++ decimal key ++ codes " " ++ messa
 ask_text (Verify public message signature) =
     codes "verify " ++ point_text public ++ codes " " ++ message_text message ++ codes " " ++ encode_lower signature
 
--- the part of a line behind ` -> `
+-- the part of a line after ` -> `
 abbrev pub told_text : Told → List ℕ
 told_text (tells.Made made) = decimal made.key ++ codes " " ++ point_text made.public
 told_text (tells.Secret secret) = encode_lower secret

@@ -31,7 +31,7 @@ toy_point seed owner key = record {
 abbrev pub is_refused : Point → Bool
 is_refused peer = list_all (λ byte. byte == 0) peer.x
 
--- whether a list of bytes isn't behind another in the order of bytes
+-- whether a list of bytes doesn't come after another in the order of bytes
 abbrev pub is_first : List ℕ → List ℕ → Bool
 is_first one other = is_le (slice_cmp nat_cmp one other)
 

@@ -26,7 +26,7 @@ pub fn followed_plan_has_one_outcome<A>()
     ensures ends { NeverBothEnds A }
 {}
 
-/// A run that follows a plan with another one behind it follows the first one, and then the one
+/// A run that follows a plan with another one after it follows the first one, and then the one
 /// that its outcome calls for; where memory or a word was wanting, it may have been in the first.
 pub fn plans_are_followed_in_parts<A, B>()
     ensures all { IsFollowedInParts A B }

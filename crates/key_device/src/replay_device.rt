@@ -10,7 +10,7 @@ use std::alloc::Global;
 use std::collections::VecDeque;
 
 /// A key device that answers from a tape: a question that equals the next recorded one gets the
-/// recorded answer. A question that differs, and one behind the end, fail and leave the place on
+/// recorded answer. A question that differs, and one after the end, fail and leave the place on
 /// the tape. It wants no memory to answer.
 #[derive(Drop)]
 pub struct ReplayDevice {

@@ -17,7 +17,7 @@ fn line_end(text: &[u8]) -> Option<usize>
     text.iter().position(|byte| *byte == b'\n')
 }
 
-// The first line, without its line feed, and what stands behind; `None` where no line ends.
+// The first line, without its line feed, and what stands after it; `None` where no line ends.
 fn first_line(text: &[u8]) -> Option<(&[u8], &[u8])>
     ensures parts { MatchOption result (tape_parts text.now ≡ text.now ∷ [])
         (λ found. tape_parts text.now ≡ found.0.now ∷ tape_parts found.1.now) }

@@ -65,7 +65,7 @@ pub(crate) fn is_refused(peer: &Point) -> bool
     peer.x.iter().all(|byte| *byte == 0)
 }
 
-// Whether one isn't behind the other in the order of bytes.
+// Whether one doesn't come after the other in the order of bytes.
 fn is_first(one: &[u8], other: &[u8]) -> bool
     ensures { result ≡ is_first one.now other.now }
 {

@@ -11,7 +11,7 @@ use std::process::ExitCode;
 use std::rt::{Clock, Env};
 use std::time::{SystemTime, UNIX_EPOCH};
 
-// The words of the command line behind the program's name. One that isn't UTF-8 is no word of a command.
+// The words of the command line after the program's name. One that isn't UTF-8 is no word of a command.
 fn words_of(rt: &(impl Env + AllocGlobal)) -> Result<Vec<Word>, Status> {
     let args = match env::args(rt) {
         Ok(args) => args,

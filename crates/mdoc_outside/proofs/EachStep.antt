@@ -2,7 +2,7 @@
 use Rattle.std.proofs.Common.{◌≡◌, List, [], ◌∷◌, ◌++◌, Result, Ok, Err, refl, sym, ap, ◌∙◌, append_assoc}
 use Rattle.mdoc_outside.specs.ResultSteps.{◌>>=◌, each}
 
--- what was given before, in front of what is given
+-- what was given before, before what is given
 abbrev pub with_front : {B E : Type 0} → List B → Result (List B) E → Result (List B) E
 with_front front given = given >>= λ others. Ok (front ++ others)
 

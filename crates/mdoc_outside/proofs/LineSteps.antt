@@ -19,7 +19,7 @@ pub line_kept : (n : ℕ) (text line rest : List ℕ) → lines text ≡ line �
 unfolding lines_from
 line_kept n text line rest e kept = rw (e, kept) refl
 
--- a first line that is passed over
+-- a first line that is ignored
 pub line_passed : (n : ℕ) (text line rest : List ℕ) → lines text ≡ line ∷ lines rest → is_kept (trimmed line) ≡ false → lines_from n text ≡ lines_from (n + 1) rest
 unfolding lines_from
 line_passed n text line rest e passed = rw (e, passed) refl

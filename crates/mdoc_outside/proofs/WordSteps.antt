@@ -11,7 +11,7 @@ part_begins b (part ∷ parts) word more e = let w : b ∷ part ≡ word = cc in
 first_kept : (b : ℕ) (parts : List (List ℕ)) (word : List ℕ) (more : List (List ℕ)) → onto_first b parts ≡ word ∷ more → filter is_part (onto_first b parts) ≡ word ∷ filter is_part more
 first_kept b parts word more e = rw (e, part_begins b parts word more e) refl
 
--- the words of a line are those behind the spaces in front of it
+-- the words of a line are those after the spaces before it
 words_after : (bytes : List ℕ) → words (after_spaces bytes) ≡ words bytes
 unfolding words
 words_after [] = refl
@@ -19,7 +19,7 @@ words_after (b ∷ bytes) =
     elim (b == 32) as (λ t. (b == 32) ≡ t → words (cond t (after_spaces bytes) (b ∷ bytes)) ≡ filter is_part (cond t ([] ∷ slice_split (λ x. x == 32) bytes) (onto_first b (slice_split (λ x. x == 32) bytes))))
     [ true ↦ λ is. words_after bytes | false ↦ λ is. rw is refl ] refl
 
--- what stands behind the spaces doesn't begin with one
+-- what stands after the spaces doesn't begin with one
 begins : (bytes : List ℕ) (b : ℕ) (more : List ℕ) → b ∷ more ≡ after_spaces bytes → (b == 32) ≡ false
 begins [] b more e = cc
 begins (x ∷ bytes) b more e =
@@ -35,7 +35,7 @@ pub words_none : (bytes line : List ℕ) → line ≡ after_spaces bytes → (le
 unfolding words
 words_none bytes line is empty = sym (words_after bytes) ∙ ap words (sym is ∙ no_bytes line empty)
 
--- the first part behind the spaces is the first word
+-- the first part after the spaces is the first word
 pub words_first : (bytes line word rest : List ℕ) → line ≡ after_spaces bytes → (length line == 0) ≡ false → slice_split (λ x. x == 32) line ≡ word ∷ slice_split (λ x. x == 32) rest → words bytes ≡ word ∷ words rest
 unfolding words
 words_first bytes [] word rest is some e = cc

@@ -14,7 +14,7 @@ abbrev pub after_spaces : List ℕ → List ℕ
 after_spaces [] = []
 after_spaces (b ∷ bytes) = if b == 32 then after_spaces bytes else b ∷ bytes
 
--- without the spaces behind
+-- without the spaces at its end
 abbrev pub before_spaces : List ℕ → List ℕ
 before_spaces bytes = reverse (after_spaces (reverse bytes))
 
@@ -22,7 +22,7 @@ before_spaces bytes = reverse (after_spaces (reverse bytes))
 abbrev pub trimmed : List ℕ → List ℕ
 trimmed bytes = before_spaces (after_spaces bytes)
 
--- blank lines, and those that begin with # (23), are passed over
+-- blank lines, and those that begin with # (23), are ignored
 abbrev pub is_kept : List ℕ → Bool
 is_kept [] = false
 is_kept (b ∷ bytes) = not (b == 35)

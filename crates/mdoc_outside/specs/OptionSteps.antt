@@ -1,4 +1,4 @@
--- Steps that may come to nothing, one behind the other.
+-- Steps that may come to nothing, one after the other.
 use Rattle.std.specs.Prelude.{List, [], ◌∷◌, Bool, true, false, Option, Some, None}
 
 -- the second step, where the first gave a value

@@ -1,4 +1,4 @@
--- Steps that may fail, one behind the other.
+-- Steps that may fail, one after the other.
 use Rattle.std.specs.Prelude.{List, [], ◌∷◌, Option, Some, None, Result, Ok, Err}
 
 -- the first fault, or what the next step gives

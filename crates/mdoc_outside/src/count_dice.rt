@@ -3,7 +3,7 @@ ghost use Rattle.std.specs.Prelude.{◌≡◌};
 
 use crate::{Dice, DiceFault};
 
-/// Words that count up from a first one, and from 0 behind the last of 64 bits. It never fails and
+/// Words that count up from a first one, and from 0 after the last of 64 bits. It never fails and
 /// wants no memory.
 #[derive(Clone, Copy, Debug)]
 pub struct CountDice {

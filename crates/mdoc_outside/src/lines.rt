@@ -12,7 +12,7 @@ fn place_of(bytes: &[u8], byte: u8) -> Option<usize>
     bytes.iter().position(|b| *b == byte)
 }
 
-// What stands before the first such byte and what stands behind it.
+// What stands before the first such byte and what stands after it.
 pub(crate) fn split_once(bytes: &[u8], separator: u8) -> Option<(&[u8], &[u8])>
     ensures parts { let parts = slice_split (λ b. b == separator) in
         MatchOption result (parts bytes.now ≡ bytes.now ∷ [])
@@ -35,7 +35,7 @@ fn without_return(line: &[u8]) -> &[u8]
     }
 }
 
-// The first line of a text and what stands behind it.
+// The first line of a text and what stands after it.
 pub(crate) fn first_line(text: &[u8]) -> Option<(&[u8], &[u8])>
     ensures first { MatchOption result (lines text.now ≡ [])
         (λ found. lines text.now ≡ found.0.now ∷ lines found.1.now) }
@@ -75,7 +75,7 @@ pub(crate) fn after_spaces(bytes: &[u8]) -> &[u8]
     left
 }
 
-// The bytes without the spaces behind.
+// The bytes without the spaces at its end.
 fn before_spaces(bytes: &[u8]) -> &[u8]
     ensures { result.now ≡ before_spaces bytes.now }
 {

@@ -5,7 +5,7 @@ use crate::call_plan::CallPlan;
 use crate::{Dice, DiceFault};
 
 /// Words in memory, dealt in order. The calls with the given numbers, from 0, fail, and so does
-/// each call behind the last word. It tells its words left, and wants no memory.
+/// each call after the last word. It tells its words left, and wants no memory.
 #[derive(Drop)]
 pub struct ListDice {
     words: Vec<u64>,

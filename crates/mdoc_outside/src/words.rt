@@ -12,7 +12,7 @@ pub struct Words<'a> {
     pub(crate) rest: &'a [u8],
 }
 
-// The first word and what stands behind it.
+// The first word and what stands after it.
 #[tactic(auto, using(crate::proofs::WordSteps::word_steps))]
 fn first_word(bytes: &[u8]) -> Option<(&[u8], &[u8])>
     ensures { MatchOption result (words bytes.now ≡ [])

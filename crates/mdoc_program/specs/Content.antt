@@ -81,7 +81,7 @@ check_status role at check = Form role (checks.Store check) at
 abbrev pub fault_status : Role → Fault → Status
 fault_status role f = check_status role f.at f.check
 
--- A file without a fault spells a store; else its first fault is told.
+-- A file without a fault spells a store; else its first fault is reported.
 abbrev pub without_fault : Role → (StoreFile → Content) → Option Fault → StoreFile → Result Content Status
 without_fault role content None file = Ok (content file)
 without_fault role content (Some f) file = Err (fault_status role f)

@@ -1,4 +1,4 @@
-// The command `issue`: what it reads, writes and prints, and how its faults are told. The root's certificate is that of
+// The command `issue`: what it reads, writes and prints, and how its faults are reported. The root's certificate is that of
 // `tests/vectors/issued_packages`.
 use crate::outcome::{Fails, Named, calls, comes_to};
 use std::alloc::Global;

@@ -203,7 +203,7 @@ const CASES: [(&[&[u8]], &str, &str, &[&[u8]]); 17] = [
     ),
 ];
 
-// Bytes one behind the other.
+// Bytes one after the other.
 fn joined(alloc: Global, parts: &[&[u8]]) -> Result<Vec<u8>, Fail> {
     let mut all = Vec::new(alloc);
     for part in parts {

@@ -49,7 +49,7 @@ fn item_of_the_examples(rt: HostRuntime) -> Result<(), Fail> {
     Ok(())
 }
 
-// What is told of an item, and its bytes. Each fault has bytes that show later ones too.
+// What is reported of an item, and its bytes. Each fault has bytes that show later ones too.
 const ITEMS: &str = "\
 Ok d8185839a46864696765737449441affffffff6672616e646f6d4071656c656d656e744964656e74696669657261616c656c656d656e7456616c756580\n\
 Ok d8185847a6656f74686572006c656c656d656e7456616c75658071656c656d656e744964656e7469666965726161656f74686572006672616e646f6d406864696765737449441affffffff\n\

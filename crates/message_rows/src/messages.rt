@@ -3,7 +3,7 @@ use cbor_view::View;
 use cose_msgs::{CoseFault, Mac0, Sign1, mac_bytes, signed_bytes, write_mac0, write_sign1};
 use std::test::Fail;
 
-// What is told of a signature, of a code and of a chain, and the bytes of the message. Each fault has bytes that
+// What is reported of a signature, of a code and of a chain, and the bytes of the message. Each fault has bytes that
 // show later ones too; the last rows have tags.
 const SIGNATURES: &str = "\
 Ok 8443a10126a0f6584007070707070707070707070707070707070707070707070707070707070707070707070707070707070707070707070707070707070707070707070707070707\n\

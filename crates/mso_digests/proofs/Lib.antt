@@ -1,4 +1,5 @@
 pub mod AscendingNumbers
+pub mod DigestLength
 pub mod DigestLists
 pub mod GroupedBytes
 pub mod IndexedDigests

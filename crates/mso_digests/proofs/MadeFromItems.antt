@@ -46,9 +46,9 @@ in-front x [] ys i = absurd i
 in-front x (z ∷ xs) ys (inl e) = inl e
 in-front x (z ∷ xs) ys (inr i) = inr (in-front x xs ys i)
 
-in-behind : {A : Type 0} (x : A) (xs ys : List A) → In x ys → In x (xs ++ ys)
-in-behind x [] ys i = i
-in-behind x (z ∷ xs) ys i = inr (in-behind x xs ys i)
+in-after : {A : Type 0} (x : A) (xs ys : List A) → In x ys → In x (xs ++ ys)
+in-after x [] ys i = i
+in-after x (z ∷ xs) ys i = inr (in-after x xs ys i)
 
 in-group : (e : Entry) (ds : List Entry) → In e ds → In e (group e.0 ds)
 in-group e [] i = absurd i
@@ -61,7 +61,7 @@ in-group e (d ∷ ds) (inr i) = elim (bytes_eq d.0 e.0) as (λ b. In e (if b the
 in-groups : (e : Entry) (ds : List Entry) (names : List (List ℕ)) → In e ds → In e.0 names → In e (flat_map (λ n. group n ds) names)
 in-groups e ds [] i j = absurd j
 in-groups e ds (n ∷ ns) i (inl is) = in-front e (group n ds) (flat_map (λ n. group n ds) ns) (subst (λ (x : List ℕ). In e (group x ds)) (sym is) (in-group e ds i))
-in-groups e ds (n ∷ ns) i (inr j) = in-behind e (group n ds) (flat_map (λ n. group n ds) ns) (in-groups e ds ns i j)
+in-groups e ds (n ∷ ns) i (inr j) = in-after e (group n ds) (flat_map (λ n. group n ds) ns) (in-groups e ds ns i j)
 
 either-true : (a b : Bool) → (a || b) ≡ true → (a ≡ true) ⊎ (b ≡ true)
 either-true true b e = inl refl

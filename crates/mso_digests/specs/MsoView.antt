@@ -22,5 +22,5 @@ abbrev pub contents : read.Contents → Contents
 contents c = record { version = c.version.now; algorithm = c.algorithm.now; digests = part c.digests; device_key = (part c.device_key).bytes; doc_type = c.doc_type.now; validity = validity c.validity }
 
 -- what the object says
-abbrev pub said : Mso → Object
-said m = record { doc_type = m.doc_type.now; digests = digests_in (part m.digests); device_key = (part m.device_key).bytes; signed = m.signed; from = m.from; until = m.until }
+abbrev pub object_seen : Mso → Object
+object_seen m = record { doc_type = m.doc_type.now; digests = digests_in (part m.digests); device_key = (part m.device_key).bytes; signed = m.signed; from = m.from; until = m.until }

@@ -5,7 +5,7 @@ ghost use Rattle.cbor_view.specs.Reading.{Gives};
 ghost use Rattle.cbor_view.specs.View.{part};
 ghost use Rattle.mso_digests.specs.Digests.{digest_at};
 ghost use Rattle.mso_digests.specs.Indexed.{IsIndexOf};
-ghost use Rattle.mso_digests.specs.MsoView.{content, contents, said};
+ghost use Rattle.mso_digests.specs.MsoView.{content, contents, object_seen};
 ghost use Rattle.mso_digests.specs.Object.{is_sha256, is_version, object, object_of_map, object_with};
 
 use crate::MsoFault;
@@ -44,7 +44,7 @@ impl<'a> Mso<'a> {
     /// named keys is there once, and other keys are ignored.
     #[tactic(auto, unfolding(crate::specs::Object::object))]
     pub fn read(raw: &'a [u8]) -> Result<Mso<'a>, MsoFault>
-        ensures { Gives said result (object raw.now) }
+        ensures { Gives object_seen result (object raw.now) }
     {
         let Ok(whole) = View::read(raw) else {
             return Err(MsoFault::Cbor);
@@ -63,7 +63,7 @@ impl<'a> Mso<'a> {
 
     /// The object of a map MobileSecurityObject.
     fn of_map(map: &View<'a>) -> Result<Mso<'a>, MsoFault>
-        ensures { Gives said result (object_of_map (part map.now)) }
+        ensures { Gives object_seen result (object_of_map (part map.now)) }
     {
         let map = NamedMap::new(
             map,
@@ -90,7 +90,7 @@ impl<'a> Mso<'a> {
 
     /// The object of these fields, where their values are in order.
     fn with(fields: &Contents<'a>) -> Result<Mso<'a>, MsoFault>
-        ensures { Gives said result (object_with (contents fields.now)) }
+        ensures { Gives object_seen result (object_with (contents fields.now)) }
     {
         if !is_version(fields.version) {
             return Err(MsoFault::Version);
@@ -114,49 +114,49 @@ impl<'a> Mso<'a> {
 
     /// The document type.
     pub fn doc_type(&self) -> &'a str
-        ensures { result.now ≡ (said self.now).doc_type }
+        ensures { result.now ≡ (object_seen self.now).doc_type }
     {
         self.doc_type
     }
 
     /// The digest of the item with that digest identifier in that namespace, none where there is no such digest.
     pub fn digest(&self, ns: &str, id: u64) -> Option<&'a [u8]>
-        ensures { option_map content result ≡ digest_at ns.now id (said self.now).digests }
+        ensures { option_map content result ≡ digest_at ns.now id (object_seen self.now).digests }
     {
         digest_in(self.digests, ns, id)
     }
 
     /// The digests by their namespaces and digest identifiers, for those who look for many of them.
     pub fn index(&self, alloc: Global) -> Result<DigestIndex<'a>, Memory>
-        ensures { IfOk result (λ index. IsIndexOf index (said self.now).digests) }
+        ensures { IfOk result (λ index. IsIndexOf index (object_seen self.now).digests) }
     {
         DigestIndex::of(alloc, self.digests)
     }
 
     /// The device key (COSE_Key), unread.
     pub fn device_key(&self) -> View<'a>
-        ensures { (part result).bytes ≡ (said self.now).device_key }
+        ensures { (part result).bytes ≡ (object_seen self.now).device_key }
     {
         self.device_key
     }
 
     /// When it was signed, in seconds since 1970.
     pub fn signed(&self) -> i64
-        ensures { result ≡ (said self.now).signed }
+        ensures { result ≡ (object_seen self.now).signed }
     {
         self.signed
     }
 
     /// From when it is valid, in seconds since 1970.
     pub fn from(&self) -> i64
-        ensures { result ≡ (said self.now).from }
+        ensures { result ≡ (object_seen self.now).from }
     {
         self.from
     }
 
     /// Until when it is valid, in seconds since 1970.
     pub fn until(&self) -> i64
-        ensures { result ≡ (said self.now).until }
+        ensures { result ≡ (object_seen self.now).until }
     {
         self.until
     }

@@ -16,7 +16,7 @@ fn shown_lines(alloc: Global, text: &[u8]) -> Result<Vec<u8>, Fail> {
     Ok(shown)
 }
 
-// The words of the lines that are kept, a bar behind each.
+// The words of the lines that are kept, a bar after each.
 fn shown_words(alloc: Global, text: &[u8]) -> Result<Vec<u8>, Fail> {
     let mut shown = Vec::new(alloc);
     for line in lines_of(text) {

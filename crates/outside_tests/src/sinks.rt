@@ -15,7 +15,7 @@ fn failures<S: Sink>(sink: &mut S, pieces: &[&[u8]]) -> u64 {
     failed
 }
 
-// The puts of a sink, each with a bar behind it; one that failed is in brackets.
+// The puts of a sink, each with a bar after it; one that failed is in brackets.
 fn shown_puts(alloc: Global, calls: &[SinkCall]) -> Result<Vec<u8>, Fail> {
     let mut shown = Vec::new(alloc);
     for call in calls {

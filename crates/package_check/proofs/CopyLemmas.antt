@@ -1,4 +1,4 @@
--- How the talk of a run follows the checks of copies one behind the other.
+-- How the talk of a run follows the checks of copies one after the other.
 use Rattle.std.proofs.Common.{◌≡◌, ◌+◌, ◌<◌, ℕ, zero, suc, List, [], ◌∷◌, ◌++◌, length, take, get_or, Option, Some, None, Result, Ok, Err, refl, sym, ap, subst, add-one, arith}
 use Rattle.std.specs.Prelude.{IfSome, replicate, slice_get}
 use Rattle.key_device.proofs.PlanLemmas.{cut_short, ended, then_more, unasked}
@@ -68,7 +68,7 @@ each_done step xs i {old} {new} {ys} first is =
     subst (λ (zs : List _). Follows (each step zs) old new (Some (Ok ys))) (all_taken xs)
     (subst (λ (n : ℕ). Follows (each step (take n xs)) old new (Some (Ok ys))) is first)
 
--- ---- a copy: its items behind what its issuer says
+-- ---- a copy: its items after what its issuer says
 
 -- which end by an outcome or for want of memory,
 pub copy_came : {A : Type 0} {p : Plan (Result A Stop)} (value : A) (next : A → Result (Unit {0}) Failure) {old new : List Exchange} (outcome : Option (Result (Unit {0}) Failure))

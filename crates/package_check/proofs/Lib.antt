@@ -1,3 +1,2 @@
 pub mod CopyLemmas
-mod DigestLength
 pub mod DocumentLemmas

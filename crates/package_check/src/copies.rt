@@ -43,11 +43,11 @@ fn copy_checks<D: KeyDevice>(
     ensures gave { Gave D.gives D.unasked D.faults device.old device.new }
     ensures counts { Counts (copy_fails result) (D.faults (inner device.old)) (D.faults (inner device.new)) }
 {
-    let said = match issuer_says(alloc, trust, doc_type, signature_of(copy), device) {
-        Ok(said) => said,
+    let issued = match issuer_says(alloc, trust, doc_type, signature_of(copy), device) {
+        Ok(issued) => issued,
         Err(stop) => return Err(failure_of(stop)),
     };
-    items_check(alloc, &said.object, doc_type, copy.items())
+    items_check(alloc, &issued.object, doc_type, copy.items())
 }
 
 /// Whether no check of a document's copies fails, in their order.

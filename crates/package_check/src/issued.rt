@@ -6,7 +6,7 @@ ghost use Rattle.key_device.specs.Gave.{Counts, Gave};
 ghost use Rattle.key_device.specs.Plan.{Follows};
 ghost use Rattle.key_device.specs.Recording.{inner, talk};
 ghost use Rattle.mso_digests.specs.Digests.{have_length};
-ghost use Rattle.mso_digests.specs.MsoView.{said};
+ghost use Rattle.mso_digests.specs.MsoView.{object_seen};
 ghost use Rattle.verdict_model.specs.Issued.{issued};
 ghost use Rattle.document_checks.specs.Checks.{issued_object};
 ghost use Rattle.document_checks.specs.Ending.{came_to};
@@ -32,8 +32,8 @@ fn issued_object<'a, D: KeyDevice>(
     item: View<'a>,
     device: &mut Recorder<D>,
 ) -> Result<Mso<'a>, Stop>
-    ensures asked { Follows (issued_object trust.now.roots.now trust.now.moment doc_type.now (part item.entry)) (talk device.old) (talk device.new) (came_to said result) }
-    ensures lengths { IfOk result (λ object. have_length (said object).digests ≡ true) }
+    ensures asked { Follows (issued_object trust.now.roots.now trust.now.moment doc_type.now (part item.entry)) (talk device.old) (talk device.new) (came_to object_seen result) }
+    ensures lengths { IfOk result (λ object. have_length (object_seen object).digests ≡ true) }
     ensures gave { Gave D.gives D.unasked D.faults device.old device.new }
     ensures counts { Counts (fails result) (D.faults (inner device.old)) (D.faults (inner device.new)) }
 {
@@ -53,7 +53,7 @@ pub(crate) fn issuer_says<'a, D: KeyDevice>(
     device: &mut Recorder<D>,
 ) -> Result<Issued<'a>, Stop>
     ensures asked { Follows (issued trust.now.roots.now trust.now.moment doc_type.now (part item.entry)) (talk device.old) (talk device.new) (came_to issued_seen result) }
-    ensures lengths { IfOk result (λ it. have_length (said it.object).digests ≡ true) }
+    ensures lengths { IfOk result (λ it. have_length (object_seen it.object).digests ≡ true) }
     ensures gave { Gave D.gives D.unasked D.faults device.old device.new }
     ensures counts { Counts (fails result) (D.faults (inner device.old)) (D.faults (inner device.new)) }
 {

@@ -5,7 +5,7 @@ ghost use Rattle.doc_store.specs.CopyItems.{copy_items_left};
 ghost use Rattle.issuer_items.specs.Item.{item};
 ghost use Rattle.issuer_items.specs.ItemView.{fields, raw_of};
 ghost use Rattle.mso_digests.specs.Digests.{have_length};
-ghost use Rattle.mso_digests.specs.MsoView.{said};
+ghost use Rattle.mso_digests.specs.MsoView.{object_seen};
 ghost use Rattle.package_model.specs.Checked.{ItemFails, item_check, items_check, named};
 ghost use Rattle.package_check.specs.Ending.{came_to, copy_fails, is_unanswered};
 
@@ -47,8 +47,8 @@ fn item_check(
     ns: &str,
     stored: &[u8],
 ) -> Result<(), Failure>
-    requires { have_length (said object.now).digests ≡ true }
-    ensures exact { IfSome (came_to result) (λ it. it ≡ item_check (said object.now) doc_type.now (ns.now, stored.now) (item stored.now) (Ok tt)) }
+    requires { have_length (object_seen object.now).digests ≡ true }
+    ensures exact { IfSome (came_to result) (λ it. it ≡ item_check (object_seen object.now) doc_type.now (ns.now, stored.now) (item stored.now) (Ok tt)) }
     ensures calm { copy_fails result ≡ false }
 {
     match Item::read(stored) {
@@ -67,8 +67,8 @@ pub(crate) fn items_check(
     doc_type: &str,
     items: CopyItems<'_>,
 ) -> Result<(), Failure>
-    requires { have_length (said object.now).digests ≡ true }
-    ensures exact { IfSome (came_to result) (λ it. it ≡ items_check (said object.now) doc_type.now (copy_items_left items.entry)) }
+    requires { have_length (object_seen object.now).digests ≡ true }
+    ensures exact { IfSome (came_to result) (λ it. it ≡ items_check (object_seen object.now) doc_type.now (copy_items_left items.entry)) }
     ensures calm { copy_fails result ≡ false }
 {
     for (ns, stored) in items {

@@ -13,7 +13,7 @@ use Rattle.key_device.specs.declared.made.Made.{Made}
 use Rattle.key_device.specs.declared.told.Told.{Told}
 use Rattle.key_device.specs.declared.told.Told.TheVariants as tells
 use Rattle.store_write.specs.Written.{copy_bytes}
-use Rattle.package_laws.proofs.PlanParts.{AllCame, AreLines, bound, done-walk, lines-behind, lines-front, same-value, swapped, times-came}
+use Rattle.package_laws.proofs.PlanParts.{AllCame, AreLines, bound, done-walk, lines-after, lines-front, same-value, swapped, times-came}
 
 -- ---- a question for a key, and one for a signature
 
@@ -89,10 +89,10 @@ copy-made fields signer es os ws bytes own others walk =
     let other_lines = subst AreLines one.os_is others in
     let two = bound (salts (length fields.elements)) (with_salts fields signer made) one.e' one.o' one.w' bytes one.second in
     let drawn = two.value in
-    let own_behind = subst AreLines two.es_is (lines-behind one.e one.e' own_lines) in
-    let other_behind = subst AreLines two.os_is (lines-behind one.o one.o' other_lines) in
-    let sizes = times-came salt (λ (s : List ℕ). length s ≡ 32) salt-size (length fields.elements) two.e two.o two.w drawn (lines-front two.e two.e' own_behind) (lines-front two.o two.o' other_behind) two.first in
-    let other_rest = lines-behind two.o two.o' other_behind in
+    let own_after = subst AreLines two.es_is (lines-after one.e one.e' own_lines) in
+    let other_after = subst AreLines two.os_is (lines-after one.o one.o' other_lines) in
+    let sizes = times-came salt (λ (s : List ℕ). length s ≡ 32) salt-size (length fields.elements) two.e two.o two.w drawn (lines-front two.e two.e' own_after) (lines-front two.o two.o' other_after) two.first in
+    let other_rest = lines-after two.o two.o' other_after in
     let turned = swapped (signed_copy fields signer made drawn) two.e' two.o' two.w' (Ok bytes) two.second in
     let three = bound (signed signer.key (message fields made.public drawn)) (with_signature fields signer made drawn) two.o' two.e' two.w' bytes turned in
     let signature = three.value in

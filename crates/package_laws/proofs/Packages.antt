@@ -35,7 +35,7 @@ use Rattle.package_laws.proofs.CopyParts.{IsMade, copies-made}
 use Rattle.package_laws.proofs.ItemsOfSpec.{AreItemsOf, items-are}
 use Rattle.package_laws.proofs.ObjectsSigned.{object-made, object-read, signature-read}
 use Rattle.package_laws.proofs.Regrouped.{made-regrouped}
-use Rattle.package_laws.proofs.PlanParts.{AreLines, bound, done-walk, lines-behind, lines-front, same-value}
+use Rattle.package_laws.proofs.PlanParts.{AreLines, bound, done-walk, lines-after, lines-front, same-value}
 use Rattle.package_laws.proofs.SpecItems.{values-are-items}
 use Rattle.package_laws.proofs.SpecLineItems.{HaveItems}
 use Rattle.package_laws.proofs.WrittenLengths.{auth-shorter, chain-shorter, copies-short, payload-shorter}
@@ -144,8 +144,8 @@ unfolding issued_package
 packaged text spec issued es os ws read is own others walk =
     let one = bound (of_other (signer_of spec)) (with_signer spec) es os ws issued walk in
     let signer = one.value in
-    let own_lines = lines-behind one.e one.e' (subst AreLines one.es_is own) in
-    let other_lines = lines-behind one.o one.o' (subst AreLines one.os_is others) in
+    let own_lines = lines-after one.e one.e' (subst AreLines one.es_is own) in
+    let other_lines = lines-after one.o one.o' (subst AreLines one.os_is others) in
     let two = bound (copies spec signer) (with_copies spec signer.root) one.e' one.o' one.w' issued one.second in
     let written = two.value in
     let made = copies-made spec signer two.e two.o two.w written (lines-front two.e two.e' (subst AreLines two.es_is own_lines)) (lines-front two.o two.o' (subst AreLines two.os_is other_lines)) two.first in
@@ -218,7 +218,7 @@ planned-signed text spec issued es os ws read is own others walk =
     record { copies = all.copies; written = all.written; each = all.signed; read = signed-read spec all.copies all.signed }
 
 gained : (old new more : List Exchange) → new ≡ old ++ more → All HasLine new → All HasLine more
-gained old new more same all = All-from_recursion HasLine more (lines-behind old more (recursion_from_All HasLine (old ++ more) (subst (λ (x : List Exchange). All HasLine x) same all)))
+gained old new more same all = All-from_recursion HasLine more (lines-after old more (recursion_from_All HasLine (old ++ more) (subst (λ (x : List Exchange). All HasLine x) same all)))
 
 pub issued-store : IsIssuedStore
 issued-store text spec issued holder issuer holder' issuer' dealt dealt' read is own others follows =

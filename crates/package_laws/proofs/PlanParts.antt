@@ -15,9 +15,9 @@ pub lines-front : (es es' : List Exchange) → AreLines (es ++ es') → AreLines
 lines-front [] es' all = tt
 lines-front (e ∷ es) es' all = (all.0, lines-front es es' all.1)
 
-pub lines-behind : (es es' : List Exchange) → AreLines (es ++ es') → AreLines es'
-lines-behind [] es' all = all
-lines-behind (e ∷ es) es' all = lines-behind es es' all.1
+pub lines-after : (es es' : List Exchange) → AreLines (es ++ es') → AreLines es'
+lines-after [] es' all = all
+lines-after (e ∷ es) es' all = lines-after es es' all.1
 
 -- ---- values
 
@@ -166,8 +166,8 @@ times-came {Y} {E} p Q known (suc count) es os ws ys own others walk =
     let same : ys ≡ one.value ∷ rest.value = same-value ys (one.value ∷ rest.value) (done-walk (Ok (one.value ∷ rest.value)) (Ok ys) rest.e' rest.o' rest.w' rest.second) in
     let lines = subst AreLines one.es_is own in
     let other_lines = subst AreLines one.os_is others in
-    let behind = subst AreLines rest.es_is (lines-behind one.e one.e' lines) in
-    let other_behind = subst AreLines rest.os_is (lines-behind one.o one.o' other_lines) in
+    let behind = subst AreLines rest.es_is (lines-after one.e one.e' lines) in
+    let other_after = subst AreLines rest.os_is (lines-after one.o one.o' other_lines) in
     let first : Q one.value = known one.e one.o one.w one.value (lines-front one.e one.e' lines) (lines-front one.o one.o' other_lines) one.first in
-    let more = times-came p Q known count rest.e rest.o rest.w rest.value (lines-front rest.e rest.e' behind) (lines-front rest.o rest.o' other_behind) rest.first in
+    let more = times-came p Q known count rest.e rest.o rest.w rest.value (lines-front rest.e rest.e' behind) (lines-front rest.o rest.o' other_after) rest.first in
     subst (AllCame Q (suc count)) (sym same) (record { number = ap suc more.number; all = (first, more.all) })

@@ -53,9 +53,9 @@ some-front P [] ys some = absurd some
 some-front P (x ∷ xs) ys (inl holds) = inl holds
 some-front P (x ∷ xs) ys (inr rest) = inr (some-front P xs ys rest)
 
-some-behind : {A : Type 0} (P : A → Type 0) (xs ys : List A) → SomeOf P ys → SomeOf P (xs ++ ys)
-some-behind P [] ys some = some
-some-behind P (x ∷ xs) ys some = inr (some-behind P xs ys some)
+some-after : {A : Type 0} (P : A → Type 0) (xs ys : List A) → SomeOf P ys → SomeOf P (xs ++ ys)
+some-after P [] ys some = some
+some-after P (x ∷ xs) ys some = inr (some-after P xs ys some)
 
 abbrev IsIn : (Pair → Type 0) → List ℕ → Pair → Type 0
 IsIn P ns pair = P pair × (pair.0 ≡ ns)
@@ -84,7 +84,7 @@ some-of P pairs (t ∷ ts) ns (inl same) some =
     some-front P (spread_group (of_namespace pairs t)) (flat_map spread_group (map (of_namespace pairs) ts))
     (some-spread P t pairs (subst (λ (x : List ℕ). SomeOf (IsIn P x) pairs) (sym same) some))
 some-of P pairs (t ∷ ts) ns (inr rest) some =
-    some-behind P (spread_group (of_namespace pairs t)) (flat_map spread_group (map (of_namespace pairs) ts)) (some-of P pairs ts ns rest some)
+    some-after P (spread_group (of_namespace pairs t)) (flat_map spread_group (map (of_namespace pairs) ts)) (some-of P pairs ts ns rest some)
 
 some-kept : (text ns : List ℕ) (ts : List (List ℕ)) → bytes_eq text ns ≡ false → SomeOf (Is ns) ts → SomeOf (Is ns) (filter (λ (other : List ℕ). not (bytes_eq text other)) ts)
 some-kept text ns [] other some = absurd some

@@ -29,7 +29,7 @@ pub unless-ok : {A : Type 0} (check : Option SpecCheck) (number : ℕ) (x y : A)
 unless-ok None number x y e = ok-value x y e
 unless-ok (Some failed) number x y e = absurd cc
 
--- what holds of nothing holds of a choice between something and nothing, and of something behind a step
+-- what holds of nothing holds of a choice between something and nothing, and of something after a step
 line-if : {L : Type 0} (P : Option L → Type 0) → P None → (b : Bool) (x : Option L) → P x → P (cond b x None)
 line-if P none true x is = is
 line-if P none false x is = none

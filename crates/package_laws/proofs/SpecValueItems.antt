@@ -24,7 +24,7 @@ use Rattle.key_device.specs.TapeLine.{is_decimal}
 use Rattle.issuing.proofs.SpecForms.{date_utf8}
 use Rattle.issuing.proofs.SpecHeaderLemmas.{same_value, where_some}
 use Rattle.issuing.specs.SpecValue as values
-use Rattle.issuing.specs.SpecWords.{behind_four_words, behind_space, bytes_of, date_of, number_of, truth_of}
+use Rattle.issuing.specs.SpecWords.{after_four_words, after_space, bytes_of, date_of, number_of, truth_of}
 
 -- what is one piece of so many levels is an item of that many or more
 pub item-of : (d most : ℕ) (bytes : List ℕ) → d ≤ most → most ≤ 32 → IsPiece d bytes → SpellsItem most bytes
@@ -128,5 +128,5 @@ one-said kind (word ∷ (other ∷ rest)) = tt
 pub value-said : (bytes kind : List ℕ) (rest : List (List ℕ)) → IsSaid (values.value_in bytes kind rest)
 value-said bytes kind rest =
     said-if (bytes_eq kind (codes "text")) _ _
-    (said-then (behind_space (behind_four_words bytes)) _ (λ said e. said-where (is_utf8 said) (text_bytes said) (λ is. text-item said (IsUtf8-from_is_utf8 said is))))
+    (said-then (after_space (after_four_words bytes)) _ (λ said e. said-where (is_utf8 said) (text_bytes said) (λ is. text-item said (IsUtf8-from_is_utf8 said is))))
     (one-said kind rest)

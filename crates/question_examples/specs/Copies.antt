@@ -10,7 +10,7 @@ use Rattle.question_examples.specs.Signing.{fresh, signed}
 use Rattle.question_examples.specs.declared.copy_fault.CopyFault.{CopyFault}
 use Rattle.question_examples.specs.declared.copy_fault.CopyFault.TheVariants.{Device, Dice, Memory}
 
--- how a copy goes on behind its new key
+-- how a copy goes on after its new key
 abbrev pub with_key : List ℕ → Made → Plan (Result (List ℕ) DeviceFault)
 with_key message made = Draw (λ word. of_other (signed message (word % 2 ^ 32)))
 

@@ -22,7 +22,7 @@ pub(crate) fn verified<D: KeyDevice>(
 }
 
 /// The first key whose signature of the message that is: it stops at a yes, ends where the device
-/// fails, and finds none behind the last no.
+/// fails, and finds none after the last no.
 #[tactic(auto, using(key_device::proofs::PlanStepLemmas::first_exits, key_device::proofs::GaveLemmas::gave_exits), unfolding(crate::specs::Search::signer_among))]
 pub fn signer_among<D: KeyDevice>(
     keys: &[Point],

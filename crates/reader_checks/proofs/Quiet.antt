@@ -67,7 +67,7 @@ ended : {A E : Type 0} (fault : E) (answer : Result A E) (es : List Exchange) (o
 ended fault answer [] outcome is walk = walk ∙ is
 ended fault answer (e ∷ es) outcome is walk = absurd walk
 
--- ---- plans one behind the other
+-- ---- plans one after the other
 
 record Parted {A B : Type 0} (p : Plan A) (f : A → Plan B) (es : List Exchange) (b : B) : Type 0 where
   middle : A
@@ -197,7 +197,7 @@ tells_timely cert moment o =
     tells_then Unanswered (check_that begun (int_le o.from moment)) (λ (v : Unit {0}). check_that over (int_le moment o.until))
     (tells_check begun (int_le o.from moment)) (λ v. tells_check over (int_le moment o.until)))
 
--- the object behind its signature
+-- the object after its signature
 abbrev object_where : ℤ → List ℕ → Signer → Object → Plan (Result Object Stop)
 object_where moment doc_type signer o =
     check_that checks.DocTypeDiffers (bytes_eq o.doc_type doc_type) >>= λ typed.

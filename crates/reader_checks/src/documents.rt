@@ -9,7 +9,7 @@ ghost use Rattle.key_device.specs.Plan.{Follows};
 ghost use Rattle.key_device.specs.PlanSteps.{each};
 ghost use Rattle.key_device.specs.Recording.{inner, talk};
 ghost use Rattle.mso_digests.specs.Digests.{have_length};
-ghost use Rattle.mso_digests.specs.MsoView.{said};
+ghost use Rattle.mso_digests.specs.MsoView.{object_seen};
 ghost use Rattle.verdict_model.specs.Documents.{judged_document};
 ghost use Rattle.reader_checks.specs.Ending.{accepted_document, came_to};
 ghost use Rattle.reader_checks.specs.declared.judge_fault.JudgeFault.TheVariants.{Device, Memory};
@@ -30,7 +30,7 @@ fn accepted_document(
     document: &ResponseDoc<'_>,
     it: &Issued<'_>,
 ) -> Result<DocVerdict, OutOfMemory>
-    requires { have_length (said it.now.object).digests ≡ true }
+    requires { have_length (object_seen it.now.object).digests ≡ true }
     ensures { IfOk result (λ verdict. verdict ≡ accepted_document (setting_seen setting.now) (document_seen document.now) (issued_seen it.now)) }
 {
     let doc_type = Octets::copy_of(alloc, document.doc_type().as_bytes())?;

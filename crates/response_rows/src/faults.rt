@@ -1,4 +1,4 @@
-// What is told of items, each of which `tests/vectors/responses` writes with the fault that it has.
+// What is reported of items, each of which `tests/vectors/responses` writes with the fault that it has.
 use cbor_view::View;
 use doc_response::{Response, ResponseFault};
 use mdoc_outside::KeyName;

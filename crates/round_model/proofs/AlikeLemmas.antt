@@ -13,7 +13,7 @@ and_parts : (a b : Bool) → (a && b) ≡ true → (a ≡ true) × (b ≡ true)
 and_parts true b is = (refl, is)
 and_parts false b is = cc
 
--- of a plan with another one behind it, what the first one came to, and the second one then
+-- of a plan with another one after it, what the first one came to, and the second one then
 pub record InParts {A B : Type 0} (p : Plan A) (f : A → Plan B) (tape other : List Exchange) (words : List ℕ) (b : B) : Type 0 where
   pub middle : A
   pub before : (over_all p tape other words).outcome ≡ Some middle

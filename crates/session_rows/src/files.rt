@@ -1,4 +1,4 @@
-// Engagement files: what stands before and behind the text of the QR code, and the line that breaks the form.
+// Engagement files: what stands before and after the text of the QR code, and the line that breaks the form.
 use crate::engagements::QUIET;
 use engagement_file::{EngagementFileFault, read_engagement};
 use std::alloc::Global;
@@ -7,7 +7,7 @@ use std::alloc::Global;
 const TEXT: &[u8] =
     b"mdoc:ogBjMS4wAYIB2BhYS6QBAiABIVggAAAAAAAAAAAAAAAAAAAAAAAAAAAAAAAAAAAAAAAAAAAiWCABAQEBAQEBAQEBAQEBAQEBAQEBAQEBAQEBAQEBAQEBAQ";
 
-// What stands before the text and behind it, and the bad line; 0 where there is none.
+// What stands before the text and after it, and the bad line; 0 where there is none.
 const FILES: &[(&[u8], &[u8], u64)] = &[
     (b"qr ", b"", 0),
     (b"qr ", b"\n", 0),

@@ -2,7 +2,7 @@
 use engagement::{EngageFault, Engagement, UriFault, from_uri, to_uri};
 use std::test::Fail;
 
-// What is told of a text, the bytes that it is read as, and the text.
+// What is reported of a text, the bytes that it is read as, and the text.
 const TEXTS: &str = "\
 Ok a10063312e30 mdoc:oQBjMS4w\n\
 Ok fbff mdoc:-_8\n\

@@ -67,7 +67,7 @@ reader_seals session text = session_data_bytes (record { sealed = Some (request_
 abbrev pub ReaderOpened : Type 0
 ReaderOpened = Result (ReaderAnswer × List ℕ) (Ending ReaderEnd)
 
--- behind an answer, the next request is sealed at the next place
+-- after an answer, the next request is sealed at the next place
 abbrev pub next_request : ReaderSession → ReaderSession
 next_request session = record session { place = session.place + 1 }
 

@@ -75,6 +75,6 @@ unfoldable pub wallet_seals : WalletSession → List ℕ → Bool → List ℕ
 wallet_seals session text last =
     session_data_bytes (record { sealed = Some (sealed_at session.keys.device Wallet session.place text); status = last_status last })
 
--- behind the answer, the next message of the reader is opened at the next place
+-- after the answer, the next message of the reader is opened at the next place
 abbrev pub next_place : WalletSession → WalletSession
 next_place session = record session { place = session.place + 1 }

@@ -11,7 +11,7 @@ use Rattle.cbor_view.specs.Reading.{head_at, typed}
 use Rattle.cbor_view.specs.Spelling as spelling
 use Rattle.cbor_view.specs.Spelling.{Spelled, Spells}
 use Rattle.cbor_view.specs.Tree.{Tree, Unsigned, Negative, Bytes, Text, Array, Map, Tag, Simple, Float, text_of}
-use Rattle.cbor_view.specs.Parts.{array_behind, body_of}
+use Rattle.cbor_view.specs.Parts.{array_after, body_of}
 use Rattle.cbor_view.proofs.HeadReading.{typed-again}
 use Rattle.cbor_view.proofs.PartialCounts.{parts-counted}
 use Rattle.cbor_view.proofs.PartsInRow.{items-made}
@@ -102,7 +102,7 @@ space-of entry space deep e =
 counted-at : (n at : ℕ) (bytes body : List ℕ) → head_at bytes ≡ Ok (typed 4 n, body) → option_map length (items_in (record { at = at; bytes = bytes })) ≡ Some n
 counted-at n at bytes body head =
     let p : Part = record { at = at; bytes = bytes } in
-    let is : items_in p ≡ Some (parts_at n (body_of p body)) = ap (array_behind p) head in
+    let is : items_in p ≡ Some (parts_at n (body_of p body)) = ap (array_after p) head in
     ap (option_map length) is ∙ ap (λ (m : ℕ). Some m) (parts-counted n (body_of p body))
 
 four-of : (p : Part) (four : List Part) → IsRead p → (items_in p >>= within 4 4) ≡ Some four → (at : ℕ) → option_map length (items_in (record { at = at; bytes = p.bytes })) ≡ Some 4

@@ -1,7 +1,7 @@
 //! Packages that are merged into a store.
 //!
 //! The one contract: a document of the package takes the place of the store's document of its type or goes last, and the
-//! merged store is written with its items and issuer's signatures as they are stored; each fault is told exactly by the
+//! merged store is written with its items and issuer's signatures as they are stored; each fault is reported exactly by the
 //! count that is too great.
 #![tactic(auto)]
 

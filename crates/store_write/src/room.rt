@@ -7,10 +7,10 @@ use mdoc_outside::Octets;
 /// The most bytes of the heads, the keys and the numbers of one map of a store file.
 const MAP_ROOM: usize = 64;
 
-/// The most bytes of the head of a text with that of the array behind it.
+/// The most bytes of the head of a text with that of the array after it.
 const NAME_ROOM: usize = 10;
 
-/// The room of a copy: its items and its issuer's signature, and each namespace where the items in front of an item are of
+/// The room of a copy: its items and its issuer's signature, and each namespace where the items before an item are of
 /// another one.
 pub(crate) fn copy_room(copy: &CopyDraft<'_>) -> usize {
     let mut room = copy.issuer_auth.len().saturating_add(MAP_ROOM);

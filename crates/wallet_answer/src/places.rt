@@ -9,7 +9,7 @@ use std::alloc::Global;
 use wallet_choice::Choice;
 use wallet_model::ReleasedAt;
 
-/// Adds places behind others, in their order.
+/// Adds places after others, in their order.
 pub fn add_places(places: &mut Vec<ReleasedAt>, more: Vec<ReleasedAt>) -> Result<(), Memory>
     ensures { OnOk result (places.new.items ≡ places.old.items ++ more.items) }
 {

@@ -145,7 +145,7 @@ ended-outcome last p (Err (fault.Line n)) e = inr (record { read = p; goes_on = 
 ended-outcome last p (Err (fault.Limit limit count)) e = absurd e
 ended-outcome last p (Err fault.Memory) e = absurd e
 
--- a line in front of those that were read
+-- a line before those that were read
 one-more : (p q : Progress) (line : TextLine) (lines : List (List (List ℕ))) (r : Progress) → next p (words line.bytes) ≡ Some q → goes q lines ≡ Some r → goes p (words line.bytes ∷ lines) ≡ Some r
 one-more p q line lines r first rest = ap (λ (o : Option Progress). o >>? λ (s : Progress). goes s lines) first ∙ rest
 

@@ -1,4 +1,4 @@
--- A wishes file by the whole list of its lines: those that are not passed over are, in order, the lines of the
+-- A wishes file by the whole list of its lines: those that are not ignored are, in order, the lines of the
 -- documents that it asks for.
 use Rattle.std.specs.Prelude.{◌≡◌, ℕ, ◌<◌, ◌≤◌, Bool, true, false, IsTrue, List, [], ◌∷◌, length, map, flat_map, codes}
 use Rattle.std.specs.List.{AllByRecursion}

@@ -8,7 +8,7 @@ ghost use Rattle.mdoc_program.specs.declared.file_fault.FileFault.TheVariants.{L
 ghost use Rattle.wishes_laws.specs.BadLine.{IsBadLine, IsLimited, PassesLimit};
 ghost use Rattle.wishes_laws.specs.WishesFile.{IsWishesFile};
 
-/// The reading of a text gives documents exactly where its lines that are not passed over are, in order,
+/// The reading of a text gives documents exactly where its lines that are not ignored are, in order,
 /// those of the documents, within the limits.
 pub fn is_wishes_file()
     ensures { (text : List ℕ) (documents : List DocDraft) → (wishes_of text ≡ Ok documents) ↔ IsWishesFile text documents }

@@ -9,7 +9,7 @@ use Rattle.package_check.proofs.copies.copy_checks.Goals as goal
 pub returns-clause-asked : goal.returns-clause-asked
 unfolding copy_checks
 returns-clause-asked g c =
-    copy_came (issued_seen c.in-Ok.said) (λ (said : Issued). items_check said.object c.args.doc_type.now (copy_of c.args.copy.now).items) (came_to c.items_check.result)
+    copy_came (issued_seen c.in-Ok.issued) (λ (said : Issued). items_check said.object c.args.doc_type.now (copy_of c.args.copy.now).items) (came_to c.items_check.result)
     (rw c.signature_of.ensures at c.in-Ok.ensures.asked) (rw c.items.ensures.exact at c.items_check.ensures.exact)
 
 pub returns-clause-counts : goal.returns-clause-counts

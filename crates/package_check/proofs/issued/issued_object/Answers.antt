@@ -1,5 +1,5 @@
 use Rattle.key_device.proofs.PlanLemmas.{then_more}
-use Rattle.mso_digests.specs.MsoView.{said}
+use Rattle.mso_digests.specs.MsoView.{object_seen}
 use Rattle.package_check.specs.Views.{signer_seen}
 use Rattle.document_checks.proofs.ChecksInOrder.{stopped}
 use Rattle.package_check.proofs.issued.issued_object.Goals as goal
@@ -8,4 +8,4 @@ pub returns-in-Ok-clause-asked : goal.returns-in-Ok-clause-asked
 returns-in-Ok-clause-asked g c = then_more _ c.in-Ok.ensures.asked c.object_of.ensures.asked
 
 pub returns-in-Err-clause-asked : goal.returns-in-Err-clause-asked
-returns-in-Err-clause-asked g c = stopped signer_seen said _ c.in-Err.stop c.in-Err.ensures.asked
+returns-in-Err-clause-asked g c = stopped signer_seen object_seen _ c.in-Err.stop c.in-Err.ensures.asked

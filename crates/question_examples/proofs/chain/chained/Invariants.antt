@@ -1,4 +1,4 @@
--- So far the steps were followed for the keys behind, up to the last signature.
+-- So far the steps were followed for the keys before, up to the last signature.
 use Rattle.std.proofs.Common.{take, Some}
 use Rattle.key_device.specs.Gave.{Gave}
 use Rattle.key_device.specs.Plan.{Follows}

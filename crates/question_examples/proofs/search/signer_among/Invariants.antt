@@ -1,4 +1,4 @@
--- So far none of the keys behind said yes.
+-- So far none of the keys before said yes.
 use Rattle.std.proofs.Common.{take, Some, None, Ok}
 use Rattle.key_device.specs.Gave.{Gave}
 use Rattle.key_device.specs.Plan.{Follows}

@@ -1,4 +1,4 @@
--- So far the plan was followed for the keys behind.
+-- So far the plan was followed for the keys before.
 use Rattle.std.proofs.Common.{take, Some, Ok}
 use Rattle.key_device.specs.Gave.{Gave}
 use Rattle.key_device.specs.Plan.{Follows}

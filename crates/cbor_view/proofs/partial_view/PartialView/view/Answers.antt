@@ -1,11 +1,11 @@
 use Rattle.std.proofs.Common.{arith}
 use Rattle.cbor_view.specs.PartialView.{rest_of_file}
-use Rattle.cbor_view.proofs.PartialFaults.{left-behind, view-whole, view-none}
+use Rattle.cbor_view.proofs.PartialFaults.{left-after, view-whole, view-none}
 use Rattle.cbor_view.proofs.PartialParts.{front-read}
 use Rattle.cbor_view.proofs.partial_view.PartialView.view.Goals as goal
 
 pub overflow_sub-self : goal.overflow_sub-self
-overflow_sub-self c = (left-behind c.args.self.now.levels (rest_of_file c.args.self.now) c.in-Ok.rest.now (record { each = c.args.self.now.each }) c.in-Ok.ensures).within
+overflow_sub-self c = (left-after c.args.self.now.levels (rest_of_file c.args.self.now) c.in-Ok.rest.now (record { each = c.args.self.now.each }) c.in-Ok.ensures).within
 
 pub invariant_of-result : goal.invariant_of-result
 invariant_of-result c =

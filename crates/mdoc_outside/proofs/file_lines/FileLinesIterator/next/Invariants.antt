@@ -1,4 +1,4 @@
--- The lines passed over are none of those that are left.
+-- The lines that are ignored are none of those that are left.
 use Rattle.std.proofs.Common.{◌≡◌, length}
 use Rattle.mdoc_outside.specs.FileLines.{lines_left}
 use Rattle.mdoc_outside.proofs.file_lines.FileLinesIterator.next.Given as goal
