@@ -6,14 +6,11 @@ ghost use Rattle.cbor_view.specs.View.{part};
 ghost use Rattle.cbor_maps.specs.Labels.{label_bytes, put_labelled};
 ghost use Rattle.cbor_maps.specs.Writing.{put, key_bytes, map_head, encoded_bytes};
 
-use cbor_view::View;
+use cbor_view::{ENCODED, View};
 use cbor_write::Build;
 use mdoc_outside::{KeyName, Memory, Octets};
 use std::alloc::Global;
 use std::marker::Model;
-
-/// The tag of a string of bytes that holds encoded CBOR (RFC 8949, section 3.4.5.1).
-const ENCODED: u64 = 24;
 
 /// A map that is being written, field by field, which a contract sees as the bytes so far. A call that
 /// wants memory gives it up.

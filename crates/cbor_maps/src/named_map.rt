@@ -13,11 +13,8 @@ ghost use Rattle.cbor_maps.specs.Found.{seen, found_at, name_at};
 use crate::MapFault;
 use crate::find::find_all;
 use crate::found::Found;
-use cbor_view::{Items, Key, View};
+use cbor_view::{ENCODED, Items, Key, View};
 use mdoc_outside::KeyName;
-
-/// The tag of a byte string that holds an item of CBOR (RFC 8949, section 3.4.5.1).
-const ENCODED: u64 = 24;
 
 /// The value under a name, as what it has to be, or the fault of that name.
 macro_rules! needed {

@@ -18,13 +18,6 @@ use std::str;
 /// The most bytes of a certificate in the file.
 const MOST_CERTIFICATE_BYTES: usize = 8192;
 
-/// The words of the line, in order.
-fn word_list<'a>(alloc: Global, file_line: &FileLine<'a>) -> Result<Vec<&'a [u8]>, AllocError>
-    ensures { IfOk result (λ list. map (λ (word : Bor (List ℕ)). word.now) list.items ≡ words (line file_line.now).bytes) }
-{
-    file_line.words().collect(alloc)
-}
-
 /// Whether the word may name a root: `*` and `+` say any reader, and any known one.
 fn names_root(word: &[u8]) -> bool
     ensures { result ≡ names_root word.now }
@@ -85,7 +78,7 @@ fn root_line(alloc: Global, words: &[&[u8]]) -> Result<Option<Root>, Memory>
 pub(crate) fn line_root(alloc: Global, file_line: &FileLine<'_>) -> Result<Root, RootsFault>
     ensures { ReadsRoots listed result (line_root (line file_line.now)) }
 {
-    let words = word_list(alloc, file_line)?;
+    let words = file_line.word_list(alloc)?;
     match root_line(alloc, &words)? {
         Some(root) => Ok(root),
         None => Err(RootsFault::Line(file_line.number())),

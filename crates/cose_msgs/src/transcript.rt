@@ -4,12 +4,10 @@ ghost use Rattle.std.specs.Prelude.{◌≡◌, ◌++◌, IfOk, OnOk};
 ghost use Rattle.cose_msgs.specs.Transcript.{device_payload, reader_payload, transcript, transcript_bytes};
 ghost use Rattle.cbor_maps.specs.Writing.{encoded_bytes};
 
+use cbor_view::ENCODED;
 use cbor_write::Build;
 use mdoc_outside::{Memory, Octets};
 use std::alloc::Global;
-
-/// The tag of a string of bytes that holds encoded CBOR (RFC 8949, section 3.4.5.1).
-const ENCODED: u64 = 24;
 
 /// Appends encoded CBOR: a string of bytes under tag 24.
 fn put_encoded(out: &mut Build, inner: &[u8]) -> Result<(), Memory>

@@ -8,11 +8,8 @@ ghost use Rattle.doc_request.specs.Asked.{document, of_items_request};
 
 use crate::elements::Elements;
 use cbor_maps::NamedMap;
-use cbor_view::{Pairs, View};
+use cbor_view::{ENCODED, Pairs, View};
 use mdoc_outside::KeyName;
-
-/// The tag of a string of bytes that holds encoded CBOR (RFC 8949, section 3.4.5.1).
-const ENCODED: u64 = 24;
 
 /// A document that a reader asks for (DocRequest; ISO/IEC 18013-5, 8.3.2.1.2.1).
 #[derive(Clone, Copy)]

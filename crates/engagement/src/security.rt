@@ -10,10 +10,7 @@ ghost use Rattle.cbor_view.specs.Tree.{int_of};
 ghost use Rattle.engagement.specs.EngagementView.{security};
 
 use crate::EngageFault;
-use cbor_view::{Items, View};
-
-/// The tag of a string of bytes that holds encoded CBOR (RFC 8949, section 3.4.5.1).
-pub(crate) const ENCODED: u64 = 24;
+use cbor_view::{ENCODED, Items, View};
 
 /// The key of the map under which it is.
 const SECURITY: u8 = 1;

@@ -10,7 +10,7 @@ ghost use Rattle.engagement.specs.Engagement.{engagement};
 ghost use Rattle.engagement.specs.WrittenEngagement.{engagement_bytes, methods_bytes, options_bytes, security_bytes};
 
 use crate::engagement::{RETRIEVAL_METHODS, SECURITY, VERSION};
-use crate::security::ENCODED;
+use cbor_view::ENCODED;
 use cbor_write::Build;
 use cose_msgs::write_key;
 use key_device::Point;

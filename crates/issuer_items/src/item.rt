@@ -8,11 +8,8 @@ ghost use Rattle.issuer_items.specs.Item.{item, item_of_map};
 
 use crate::ItemFault;
 use cbor_maps::{MapFault, NamedMap};
-use cbor_view::View;
+use cbor_view::{ENCODED, View};
 use mdoc_outside::KeyName;
-
-/// The tag of a string of bytes that holds encoded CBOR (RFC 8949, section 3.4.5.1).
-const ENCODED: u64 = 24;
 
 /// An issuer-signed item (ISO/IEC 18013-5, 8.3.2.1.2.2), borrowed from the bytes that spell it.
 #[derive(Clone, Copy)]

@@ -8,13 +8,10 @@ ghost use Rattle.issuer_items.specs.Item.{Item, item};
 ghost use Rattle.issuer_items.specs.WrittenItem.{item_map, item_bytes, IsWritable};
 
 use cbor_maps::MapBuild;
-use cbor_view::View;
+use cbor_view::{ENCODED, View};
 use cbor_write::Build;
 use mdoc_outside::{KeyName, Memory, Octets};
 use std::alloc::Global;
-
-/// The tag of a string of bytes that holds encoded CBOR (RFC 8949, section 3.4.5.1).
-const ENCODED: u64 = 24;
 
 /// The bytes of the map IssuerSignedItem, whose value is spelled already.
 #[tactic(auto, unfolding(crate::specs::WrittenItem::item_map))]

@@ -4,7 +4,6 @@ pub mod SpecHeaderLemmas
 pub mod SpecLaws
 pub mod SpecMandatory
 pub mod SpecNamespaceLemmas
-pub mod SpecNumbers
 pub mod SpecPrefix
 pub mod SpecTimes
 pub mod SpecValues

@@ -17,7 +17,8 @@ use Rattle.issuing.specs.SpecFacts.{is_signer, is_new}
 use Rattle.issuing.specs.SpecLine as lines
 use Rattle.issuing.specs.SpecSoFar.{SoFar, no_headers, is_given, is_empty, with_header}
 use Rattle.issuing.specs.SpecValue.{value_in}
-use Rattle.issuing.specs.SpecWords.{name_of, number_of, number_within}
+use Rattle.issuing.specs.SpecWords.{name_of, number_within}
+use Rattle.mdoc_outside.specs.Decimals.{decimal_number}
 use Rattle.issuing.specs.declared.spec_header.SpecHeader.{SpecHeader}
 use Rattle.issuing.specs.declared.spec_header.SpecHeader.TheVariants.{DocType, UsesMac, Copies, Signer, Signed, From, Until, Update}
 use Rattle.issuing.specs.declared.spec_headers.SpecHeaders.{SpecHeaders}
@@ -82,7 +83,7 @@ name_is word name e =
 
 number_is : (least most : ℕ) (word : List ℕ) (number : ℕ) → number_within least most word ≡ Some number → is_in_range least most number ≡ true
 number_is least most word number e =
-    let read = bind_some (number_of word) (λ n. where_true (nat_le least n && nat_le n most) n) number e in
+    let read = bind_some (decimal_number word) (λ n. where_true (nat_le least n && nat_le n most) n) number e in
     let found = where_some (nat_le least read.0 && nat_le read.0 most) read.0 number read.2 in
     subst (λ (n : ℕ). is_in_range least most n ≡ true) found.1 found.0
 

@@ -7,7 +7,8 @@ use Rattle.cbor_view.specs.Shortest.{text_bytes, tag_bytes, uint_bytes, boolean_
 use Rattle.cbor_view.specs.Tree.{Tree, levels}
 use Rattle.cbor_view.specs.declared.cbor_fault.CborFault.{CborFault}
 use Rattle.mdoc_outside.specs.OptionSteps.{◌>>=◌, where_true}
-use Rattle.issuing.specs.SpecWords.{number_of, truth_of, bytes_of, date_of, after_four_words, after_space}
+use Rattle.mdoc_outside.specs.Decimals.{decimal_number}
+use Rattle.issuing.specs.SpecWords.{truth_of, bytes_of, date_of, after_four_words, after_space}
 
 -- whether bytes spell one item of at most 31 levels of nesting
 abbrev pub is_shallow : Result Tree CborFault → Bool
@@ -22,7 +23,7 @@ abbrev pub date_value : List ℕ → Option (List ℕ)
 date_value word = date_of word >>= λ date. Some (tag_bytes 1004 (text_bytes date))
 
 abbrev pub uint_value : List ℕ → Option (List ℕ)
-uint_value word = number_of word >>= λ number. Some (uint_bytes number)
+uint_value word = decimal_number word >>= λ number. Some (uint_bytes number)
 
 abbrev pub bool_value : List ℕ → Option (List ℕ)
 bool_value word = truth_of word >>= λ truth. Some (boolean_bytes truth)

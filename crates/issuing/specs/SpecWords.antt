@@ -2,10 +2,9 @@
 use Rattle.std.specs.Prelude.{ℕ, ◌^◌, ◌==◌, ◌&&◌, nat_lt, nat_le, List, [], ◌∷◌, Bool, true, false, Option, Some, None, codes, if◌then◌else◌}
 use Rattle.std.specs.Result.{result_ok}
 use Rattle.std.specs.Str.{bytes_eq}
-use Rattle.std.specs.Str.Parse.{digits_value}
 use Rattle.hex.specs.Hex.{decode_of}
-use Rattle.key_device.specs.TapeLine.{is_decimal}
 use Rattle.mdl_table.specs.Form.{has_form}
+use Rattle.mdoc_outside.specs.Decimals.{decimal_number}
 use Rattle.mdoc_outside.specs.Lines.{after_spaces}
 use Rattle.mdoc_outside.specs.OptionSteps.{◌>>=◌, where_true}
 use Rattle.mdoc_outside.specs.WordForm.{is_name}
@@ -14,14 +13,9 @@ use Rattle.mdoc_outside.specs.WordForm.{is_name}
 abbrev pub name_of : List ℕ → Option (List ℕ)
 name_of word = where_true (is_name word) word
 
--- a decimal number below 2^64, without leading zeros
-unfoldable pub number_of : List ℕ → Option ℕ
-number_of word =
-    if is_decimal word && nat_lt (digits_value 10 word) (2 ^ 64) then Some (digits_value 10 word) else None
-
 -- a number from the least to the most
 abbrev pub number_within : ℕ → ℕ → List ℕ → Option ℕ
-number_within least most word = number_of word >>= λ number. where_true (nat_le least number && nat_le number most) number
+number_within least most word = decimal_number word >>= λ number. where_true (nat_le least number && nat_le number most) number
 
 -- `true` or `false`
 abbrev pub truth_of : List ℕ → Option Bool

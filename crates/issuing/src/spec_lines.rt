@@ -13,7 +13,7 @@ use crate::spec_header::SpecHeader;
 use crate::spec_header_lines::{header_of, is_new, known_signer};
 use crate::spec_line::SpecLine;
 use crate::spec_values::value_in;
-use crate::spec_words::{name_of, word_list};
+use crate::spec_words::name_of;
 use mdoc_outside::{FileLine, Memory, lines_of};
 use std::alloc::{AllocError, Global};
 
@@ -106,7 +106,7 @@ pub(crate) fn spec_line(alloc: Global, file_line: &FileLine<'_>) -> Result<Optio
     ensures exact { IfOk result (λ said. said ≡ spec_line (line file_line.now).bytes) }
     ensures line { IfOk result (λ said. IfSome said (λ l. IsTrue (is_line l))) }
 {
-    let words = word_list(alloc, file_line)?;
+    let words = file_line.word_list(alloc)?;
     said_by(alloc, file_line.bytes(), &words)
 }
 
@@ -125,7 +125,7 @@ pub(crate) fn has_new_signer(alloc: Global, text: &[u8]) -> Result<bool, AllocEr
     ensures { IfOk result (λ new. new ≡ has_new_signer (file_lines text.now)) }
 {
     for line in lines_of(text) {
-        let words = word_list(alloc, &line)?;
+        let words = line.word_list(alloc)?;
         if is_new_signer(&words) {
             return Ok(true);
         }

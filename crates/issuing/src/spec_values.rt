@@ -4,10 +4,10 @@ ghost use Rattle.std.specs.Prelude.{◌≡◌, ℕ, List, IfOk, IfSome, IsTrue, 
 ghost use Rattle.std.specs.Borrow.{Bor};
 ghost use Rattle.issuing.specs.SpecValue.{is_value, date_value, uint_value, bool_value, bytes_value, cbor_value, value_of, text_value, one_word, value_in};
 
-use crate::spec_words::{after_four_words_and_space, bytes_of, date_of, number_of, truth_of};
+use crate::spec_words::{after_four_words_and_space, bytes_of, date_of, truth_of};
 use cbor_view::View;
 use cbor_write::Build;
-use mdoc_outside::{Memory, Octets};
+use mdoc_outside::{Memory, Octets, decimal_number};
 use std::alloc::Global;
 use std::str;
 
@@ -37,7 +37,7 @@ fn uint_value(alloc: Global, word: &[u8]) -> Result<Option<Octets>, Memory>
     ensures exact { IfOk result (λ value. value ≡ uint_value word.now) }
     ensures item { IfOk result (λ value. IfSome value (λ v. IsTrue (is_value v))) }
 {
-    let Some(number) = number_of(word) else {
+    let Some(number) = decimal_number(word) else {
         return Ok(None);
     };
     let mut value = Build::new(alloc);

@@ -4,27 +4,16 @@ ghost use Rattle.std.specs.Prelude.{◌≡◌, ◌==◌, ℕ, List, IfOk, IfSome
 ghost use Rattle.std.specs.Borrow.{Bor};
 ghost use Rattle.std.specs.Char.{is_ascii_digit};
 ghost use Rattle.std.specs.List.{list_all, zip};
-ghost use Rattle.key_device.specs.TapeLine.{is_decimal};
 ghost use Rattle.mdl_table.specs.Form.{has_form, stands_for};
 ghost use Rattle.mdoc_outside.specs.FileLine.{line};
 ghost use Rattle.mdoc_outside.specs.Lines.{after_spaces, words};
 ghost use Rattle.mdoc_outside.specs.WordForm.{is_name};
-ghost use Rattle.issuing.specs.SpecWords.{name_of, number_of, number_within, truth_of, bytes_of, date_of, behind_word, after_four_words, after_space};
+ghost use Rattle.issuing.specs.SpecWords.{name_of, number_within, truth_of, bytes_of, date_of, behind_word, after_four_words, after_space};
 
 use hex::FromHexError;
-use mdoc_outside::{FileLine, Memory, Octets, is_name};
+use mdoc_outside::{FileLine, Memory, Octets, decimal_number, is_name};
 use std::alloc::{AllocError, Global};
 use std::str;
-
-/// The words of the line, in order.
-pub(crate) fn word_list<'a>(
-    alloc: Global,
-    file_line: &FileLine<'a>,
-) -> Result<Vec<&'a [u8]>, AllocError>
-    ensures { IfOk result (λ list. map (λ (word : Bor (List ℕ)). word.now) list.items ≡ words (line file_line.now).bytes) }
-{
-    file_line.words().collect(alloc)
-}
 
 /// A copy of a name.
 pub(crate) fn name_of(alloc: Global, word: &[u8]) -> Result<Option<Octets>, Memory>
@@ -37,44 +26,11 @@ pub(crate) fn name_of(alloc: Global, word: &[u8]) -> Result<Option<Octets>, Memo
     Ok(Some(Octets::copy_of(alloc, word)?))
 }
 
-fn is_digits(word: &[u8]) -> bool
-    ensures { result ≡ list_all is_ascii_digit word.now }
-{
-    word.iter().all(|byte| byte.is_ascii_digit())
-}
-
-/// Whether a word is decimal digits without a leading zero.
-fn is_decimal(word: &[u8]) -> bool
-    ensures { result ≡ is_decimal word.now }
-{
-    if word.is_empty() {
-        return false;
-    }
-    if !is_digits(word) {
-        return false;
-    }
-    word.len() == 1 || word[0] != b'0'
-}
-
-/// A decimal number below 2^64.
-#[tactic(auto, using(crate::proofs::SpecNumbers::parsed, crate::proofs::SpecNumbers::decimal_utf8), unfolding(crate::specs::SpecWords::number_of))]
-pub(crate) fn number_of(word: &[u8]) -> Option<u64>
-    ensures { result ≡ number_of word.now }
-{
-    if !is_decimal(word) {
-        return None;
-    }
-    match str::from_utf8(word) {
-        Ok(text) => text.parse::<u64>().ok(),
-        Err(_) => None,
-    }
-}
-
 /// A decimal number from the least to the most.
 pub(crate) fn number_within(least: u32, most: u32, word: &[u8]) -> Option<u32>
     ensures { result ≡ number_within least most word.now }
 {
-    let number = number_of(word)?;
+    let number = decimal_number(word)?;
     if u64::from(least) <= number && number <= u64::from(most) {
         Some(number as u32)
     } else {

@@ -11,8 +11,9 @@ use Rattle.std.specs.Str.{bytes_eq}
 use Rattle.std.specs.Str.Parse.{digits_value}
 use Rattle.hex.specs.Hex.{encode_with, encode_lower, lower_digits, decode_of, IsBytes}
 use Rattle.hex.proofs.HexLemmas.{length-encode_with, decode_sized-encode_lower, decode_of-encode_lower}
-use Rattle.key_device.proofs.TapeWordLemmas.{own, all_digits}
-use Rattle.key_device.specs.TapeLine.{is_decimal, is_lower_digit, number_of, bytes_of, message_of, point_of}
+use Rattle.mdoc_outside.proofs.DecimalLemmas.{own, all_digits}
+use Rattle.mdoc_outside.specs.Decimals.{is_decimal}
+use Rattle.key_device.specs.TapeLine.{is_lower_digit, number_of, bytes_of, message_of, point_of}
 use Rattle.key_device.specs.TapeText.{message_text}
 use Rattle.key_device.specs.HasLine.{IsSized, IsPoint}
 use Rattle.key_device.specs.declared.point.Point.{Point}

@@ -5,13 +5,14 @@
 --   verify X Y MESSAGE SIGNATURE -> yes | no | failed
 -- KEY is a decimal number below 2^32, all else is in lower-case hexadecimal digits: X, Y and SECRET
 -- 64 of them, SIGNATURE 128, MESSAGE an even number, and `-` for no bytes.
-use Rattle.std.specs.Prelude.{ℕ, ◌^◌, ◌==◌, ◌&&◌, ◌||◌, List, [], ◌∷◌, Bool, Option, Some, None, not, codes, length, slice_index, nat_lt, nat_le, if◌then◌else◌}
+use Rattle.std.specs.Prelude.{ℕ, ◌^◌, ◌==◌, ◌&&◌, ◌||◌, List, [], ◌∷◌, Bool, Option, Some, None, codes, nat_lt, nat_le, if◌then◌else◌}
 use Rattle.std.specs.Char.{is_ascii_digit}
 use Rattle.std.specs.List.{list_all, slice_split}
 use Rattle.std.specs.Result.{result_ok}
 use Rattle.std.specs.Str.{bytes_eq}
 use Rattle.std.specs.Str.Parse.{digits_value}
 use Rattle.hex.specs.Hex.{decode_of, decode_sized}
+use Rattle.mdoc_outside.specs.Decimals.{is_decimal}
 use Rattle.mdoc_outside.specs.OptionSteps.{◌>>=◌}
 use Rattle.key_device.specs.Recording.{exchange}
 use Rattle.key_device.specs.declared.ask.Ask.TheVariants.{Fresh, Agree, Sign, Verify}
@@ -20,12 +21,6 @@ use Rattle.key_device.specs.declared.made.Made.{Made}
 use Rattle.key_device.specs.declared.point.Point.{Point}
 use Rattle.key_device.specs.declared.told.Told.{Told}
 use Rattle.key_device.specs.declared.told.Told.TheVariants as tells
-
--- decimal digits, without a leading zero but for `0` itself
-abbrev pub is_decimal : List ℕ → Bool
-is_decimal word =
-    not (length word == 0) && list_all is_ascii_digit word
-    && (length word == 1 || not (slice_index word 0 == 48))
 
 -- a decimal number below 2^32
 unfoldable pub number_of : List ℕ → Option ℕ

@@ -3,7 +3,7 @@ ghost use Rattle.std.specs.Prelude.{◌≡◌, ℕ, List, IfOk, map};
 ghost use Rattle.std.specs.Borrow.{Bor};
 ghost use Rattle.key_device.specs.TapeLine.{point_of, has_form, made_of, three_of, five_of, six_of, seven_of, told_of_agree, told_of_sign, told_of_verify, sign_of, agree_of, verify_of, exchange_of, line_exchange};
 
-use crate::tape_words::{bytes_of, is_text, message_of, number_of, word_list};
+use crate::tape_words::{between_spaces, bytes_of, is_text, message_of, number_of};
 use crate::{Ask, Exchange, Made, Point, Told};
 use mdoc_outside::Memory;
 use std::alloc::Global;
@@ -237,6 +237,6 @@ fn exchange_of(alloc: Global, words: &[&[u8]]) -> Result<Option<Exchange>, Memor
 pub(crate) fn line_exchange(alloc: Global, line: &[u8]) -> Result<Option<Exchange>, Memory>
     ensures { IfOk result (λ e. e ≡ line_exchange line.now) }
 {
-    let words = word_list(alloc, line)?;
+    let words = between_spaces(alloc, line)?;
     exchange_of(alloc, &words)
 }

@@ -2,17 +2,15 @@
 ghost use Rattle.std.specs.Prelude.{◌≡◌, ◌==◌, ℕ, List, map, IfOk};
 ghost use Rattle.std.specs.Borrow.{Bor};
 ghost use Rattle.std.specs.List.{slice_split, list_all};
-ghost use Rattle.std.specs.Char.{is_ascii_digit};
 ghost use Rattle.std.specs.Str.{bytes_eq};
-ghost use Rattle.key_device.specs.TapeLine.{is_decimal, number_of, is_lower_digit, bytes_of, message_of};
+ghost use Rattle.key_device.specs.TapeLine.{number_of, is_lower_digit, bytes_of, message_of};
 
 use hex::FromHexError;
-use mdoc_outside::{Memory, Octets};
+use mdoc_outside::{Memory, Octets, decimal_number};
 use std::alloc::{AllocError, Global};
-use std::str;
 
 // What stands between single spaces.
-pub(crate) fn word_list<'a>(alloc: Global, line: &'a [u8]) -> Result<Vec<&'a [u8]>, AllocError>
+pub(crate) fn between_spaces<'a>(alloc: Global, line: &'a [u8]) -> Result<Vec<&'a [u8]>, AllocError>
     ensures { IfOk result (λ list. map (λ (word : Bor (List ℕ)). word.now) list.items
         ≡ slice_split (λ byte. byte == 32) line.now) }
 {
@@ -26,36 +24,12 @@ pub(crate) fn is_text(word: &[u8], text: &[u8]) -> bool
     word == text
 }
 
-fn is_digits(word: &[u8]) -> bool
-    ensures { result ≡ list_all is_ascii_digit word.now }
-{
-    word.iter().all(|byte| byte.is_ascii_digit())
-}
-
-fn is_decimal(word: &[u8]) -> bool
-    ensures { result ≡ is_decimal word.now }
-{
-    if word.is_empty() {
-        return false;
-    }
-    if !is_digits(word) {
-        return false;
-    }
-    word.len() == 1 || word[0] != b'0'
-}
-
 // A number below 2^32.
-#[tactic(auto, using(crate::proofs::TapeWordLemmas::parsed, crate::proofs::TapeWordLemmas::decimal_utf8), unfolding(crate::specs::TapeLine::number_of))]
+#[tactic(auto, unfolding(crate::specs::TapeLine::number_of, mdoc_outside::specs::Decimals::decimal_number))]
 pub(crate) fn number_of(word: &[u8]) -> Option<u32>
     ensures { result ≡ number_of word.now }
 {
-    if !is_decimal(word) {
-        return None;
-    }
-    match str::from_utf8(word) {
-        Ok(text) => text.parse::<u32>().ok(),
-        Err(_) => None,
-    }
+    u32::try_from(decimal_number(word)?).ok()
 }
 
 fn is_lower(word: &[u8]) -> bool

@@ -1,6 +1,7 @@
+pub mod DecimalLemmas
 pub mod DiceLaws
 pub mod EachStep
 pub mod GaveWordsLemmas
 mod LineSteps
-mod Splits
+pub mod Splits
 mod WordSteps

@@ -2,6 +2,7 @@ pub mod Cabinet
 pub mod CallPlan
 pub mod CountDice
 pub mod Dealt
+pub mod Decimals
 pub mod Faults
 pub mod FileLine
 pub mod FileLines

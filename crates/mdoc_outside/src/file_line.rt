@@ -1,10 +1,12 @@
 // One line of a line file.
-ghost use Rattle.std.specs.Prelude.{◌≡◌};
+ghost use Rattle.std.specs.Prelude.{◌≡◌, ℕ, List, IfOk, map};
+ghost use Rattle.std.specs.Borrow.{Bor};
 ghost use Rattle.mdoc_outside.specs.FileLine.{line};
 ghost use Rattle.mdoc_outside.specs.Lines.{words};
 ghost use Rattle.mdoc_outside.specs.Words.{words_left};
 
 use crate::Words;
+use std::alloc::{AllocError, Global};
 
 /// A line of a line file that is neither blank nor a comment.
 #[derive(Clone, Copy)]
@@ -33,5 +35,12 @@ impl<'a> FileLine<'a> {
         ensures { words_left result ≡ words (line self.now).bytes }
     {
         Words { rest: self.bytes }
+    }
+
+    /// The line's words as a list, in order.
+    pub fn word_list(&self, alloc: Global) -> Result<Vec<&'a [u8]>, AllocError>
+        ensures { IfOk result (λ list. map (λ (word : Bor (List ℕ)). word.now) list.items ≡ words (line self.now).bytes) }
+    {
+        self.words().collect(alloc)
     }
 }

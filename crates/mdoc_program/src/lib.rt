@@ -31,7 +31,6 @@ mod store_form;
 mod wish_line;
 mod wishes;
 mod wishes_form;
-mod word_list;
 
 pub use command::Command;
 pub use file_fault::FileFault;

@@ -7,7 +7,6 @@ ghost use Rattle.mdoc_program.specs.Wishes.{wishes_of};
 use crate::FileFault;
 use crate::reading::Reading;
 use crate::wish_line::wish_line;
-use crate::word_list::word_list;
 use doc_request::RequestDraft;
 use mdoc_outside::{line_count, lines_of};
 use std::alloc::Global;
@@ -21,7 +20,7 @@ pub fn read_wishes(alloc: Global, text: &[u8]) -> Result<RequestDraft, FileFault
 {
     let mut reading = Reading::new(alloc);
     for line in lines_of(text) {
-        let words = word_list(alloc, &line)?;
+        let words = line.word_list(alloc)?;
         let said = wish_line(alloc, &words)?;
         reading = reading.with_line(alloc, line.number(), said)?;
     }

@@ -13,12 +13,9 @@ use crate::contents::{Contents, distinct_keys};
 use crate::digests::{digest_in, have_length};
 use crate::index::DigestIndex;
 use cbor_maps::{MapFault, NamedMap};
-use cbor_view::View;
+use cbor_view::{ENCODED, View};
 use mdoc_outside::{KeyName, Memory};
 use std::alloc::Global;
-
-/// The tag of a string of bytes that holds encoded CBOR (RFC 8949, section 3.4.5.1).
-const ENCODED: u64 = 24;
 
 /// A mobile security object (ISO/IEC 18013-5, 9.1.2.4), borrowed from the bytes that spell it.
 #[derive(Clone, Copy)]

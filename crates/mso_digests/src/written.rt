@@ -12,6 +12,7 @@ ghost use Rattle.mso_digests.specs.Written.{AreInYears, AreOnce, AreTexts, date_
 use crate::MsoDraft;
 use crate::grouped::write_digests;
 use cbor_maps::MapBuild;
+use cbor_view::ENCODED;
 use cbor_write::Build;
 use cose_msgs::write_key;
 use key_device::Point;
@@ -21,9 +22,6 @@ use std::alloc::Global;
 
 /// The tag of a date and time in a text (RFC 8949, section 3.4.1).
 const DATE: u64 = 0;
-
-/// The tag of a string of bytes that holds encoded CBOR (RFC 8949, section 3.4.5.1).
-const ENCODED: u64 = 24;
 
 /// A date and time (tdate; RFC 8949, section 3.4.1).
 fn write_date(alloc: Global, moment: i64) -> Result<Octets, Memory>

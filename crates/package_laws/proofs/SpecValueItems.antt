@@ -20,11 +20,11 @@ use Rattle.cbor_view.specs.declared.cbor_fault.CborFault.{CborFault}
 use Rattle.cbor_view.proofs.WholeReading.{reads-spells}
 use Rattle.cbor_view.proofs.WrittenParts.{IsPiece, piece-shortest}
 use Rattle.cbor_maps.specs.WrittenReads.{SpellsItem}
-use Rattle.key_device.specs.TapeLine.{is_decimal}
+use Rattle.mdoc_outside.specs.Decimals.{decimal_number, is_decimal}
 use Rattle.issuing.proofs.SpecForms.{date_utf8}
 use Rattle.issuing.proofs.SpecHeaderLemmas.{same_value, where_some}
 use Rattle.issuing.specs.SpecValue as values
-use Rattle.issuing.specs.SpecWords.{after_four_words, after_space, bytes_of, date_of, number_of, truth_of}
+use Rattle.issuing.specs.SpecWords.{after_four_words, after_space, bytes_of, date_of, truth_of}
 
 -- what is one piece of so many levels is an item of that many or more
 pub item-of : (d most : ℕ) (bytes : List ℕ) → d ≤ most → most ≤ 32 → IsPiece d bytes → SpellsItem most bytes
@@ -90,8 +90,8 @@ small-if true v n e = go (nat_lt v (2 ^ 64)) refl e where
   go true is e = subst (λ (x : ℕ). x < 2 ^ 64) (same_value v n e) (ltb-true v (2 ^ 64) is)
   go false is e = absurd cc
 
-number-small : (word : List ℕ) (n : ℕ) → number_of word ≡ Some n → n < 2 ^ 64
-unfolding number_of
+number-small : (word : List ℕ) (n : ℕ) → decimal_number word ≡ Some n → n < 2 ^ 64
+unfolding decimal_number
 number-small word n e = small-if (is_decimal word) (digits_value 10 word) n e
 
 decoded : (r : Result (List ℕ) FromHexError) (bytes : List ℕ) → result_ok r ≡ Some bytes → r ≡ Ok bytes
@@ -115,7 +115,7 @@ date-is word date e =
 kind-said : (kind word : List ℕ) → IsSaid (values.value_of kind word)
 kind-said kind word =
     said-if (bytes_eq kind (codes "date")) _ _ (said-then (date_of word) _ (λ date e. date-item date (date-is word date e))) (
-    said-if (bytes_eq kind (codes "uint")) _ _ (said-then (number_of word) _ (λ number e. uint-item number (number-small word number e))) (
+    said-if (bytes_eq kind (codes "uint")) _ _ (said-then (decimal_number word) _ (λ number e. uint-item number (number-small word number e))) (
     said-if (bytes_eq kind (codes "bool")) _ _ (said-then (truth_of word) _ (λ truth e. boolean-item truth)) (
     said-if (bytes_eq kind (codes "bytes")) _ _ (said-then (bytes_of word) _ (λ bytes e. bytes-item bytes)) (
     said-if (bytes_eq kind (codes "cbor")) _ _ (said-then (bytes_of word) _ (λ item e. said-where (values.is_value item) item (given-item item (bytes-are word item e)))) tt))))

@@ -7,12 +7,10 @@ ghost use Rattle.session_seal.specs.Places.{sealed_text};
 ghost use Rattle.session_seal.specs.WrittenMessages.{data_head, establishment_bytes, establishment_head, last_status, session_data_bytes, status_field};
 
 use aes_gcm::Key256;
+use cbor_view::ENCODED;
 use cbor_write::Build;
 use mdoc_outside::{KeyName, Memory, Octets};
 use std::alloc::Global;
-
-/// The tag of a string of bytes that holds encoded CBOR (RFC 8949, section 3.4.5.1).
-const ENCODED: u64 = 24;
 
 /// The length of the tag of a ciphertext.
 const TAG_LEN: usize = 16;

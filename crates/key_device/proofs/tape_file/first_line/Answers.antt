@@ -1,6 +1,6 @@
 use Rattle.std.proofs.Common.{◌≡◌, ◌+◌, ◌-◌, ◌==◌, length, take, drop, arith}
 use Rattle.std.proofs.lemmas.List.{take_all, length-drop}
-use Rattle.key_device.proofs.Splits.{split_found, split_missing}
+use Rattle.mdoc_outside.proofs.Splits.{split_found, split_missing}
 use Rattle.key_device.proofs.tape_file.first_line.Goals as goal
 
 pub returns-in-Some-clause-parts : goal.returns-in-Some-clause-parts

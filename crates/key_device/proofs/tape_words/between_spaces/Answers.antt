@@ -1,7 +1,7 @@
 use Rattle.std.proofs.Common.{rules, ◌==◌}
 use Rattle.std.proofs.lemmas.Iterator.Consumers.{map_from_collect}
 use Rattle.std.proofs.lemmas.Iterator.Splits.{YieldsList-from_slice_split}
-use Rattle.key_device.proofs.tape_words.word_list.Goals as goal
+use Rattle.key_device.proofs.tape_words.between_spaces.Goals as goal
 
 pub returns : goal.returns
 returns c =
