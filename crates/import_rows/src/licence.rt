@@ -30,7 +30,7 @@ element org.iso.18013.5.1 issuing_authority text Example
 element org.iso.18013.5.1 document_number text D0001
 element org.iso.18013.5.1 portrait bytes ";
 
-const BEHIND_PORTRAIT: &str = "
+const AFTER_PORTRAIT: &str = "
 element org.iso.18013.5.1 driving_privileges cbor 80
 element org.iso.18013.5.1 un_distinguishing_sign text UTO
 element org.iso.18013.5.1 age_over_18 bool true
@@ -42,7 +42,7 @@ const PORTRAIT: usize = 30_000;
 /// 2024-07-01T00:00:00Z, and a second after the licence's last one.
 const WITHIN: i64 = 1_719_792_000;
 
-const BEHIND: i64 = 1_861_920_001;
+const TOO_LATE: i64 = 1_861_920_001;
 
 fn licence(alloc: Global) -> Option<Issued> {
     let mut text = String::new(alloc);
@@ -50,7 +50,7 @@ fn licence(alloc: Global) -> Option<Issued> {
     for _ in 0..PORTRAIT {
         text.push_str("00").ok()?;
     }
-    text.push_str(BEHIND_PORTRAIT).ok()?;
+    text.push_str(AFTER_PORTRAIT).ok()?;
     let spec = Spec::read(alloc, text.as_bytes()).ok()?;
     let mut holder = Recorder::new(alloc, ToyDevice::new(1, 1, 5));
     let mut issuer = Recorder::new(alloc, ToyDevice::new(1, 2, 7));
@@ -181,7 +181,7 @@ fn untrusted_and_late_signers_are_refused(rt: HostRuntime) {
     let untrusted = Finding::Refused(DocCheck::CertUntrusted);
     assert!(rt; is_outcome(imported(alloc, package, &none, WITHIN), &untrusted, package));
     let late = Finding::Refused(DocCheck::CertTime);
-    assert!(rt; is_outcome(imported(alloc, package, &roots, BEHIND), &late, package));
+    assert!(rt; is_outcome(imported(alloc, package, &roots, TOO_LATE), &late, package));
     assert!(rt; is_outcome(imported(alloc, package, &roots, 0), &late, package));
 }
 
