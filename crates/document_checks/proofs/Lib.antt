@@ -1,2 +1,1 @@
-pub mod ObjectLengths
-pub mod ChecksInOrder
+mod Causes

@@ -3,7 +3,7 @@
 ghost use Rattle.std.specs.Prelude.{◌≡◌, IfOk, true};
 ghost use Rattle.mdoc_outside.specs.Faults.{HasCause};
 ghost use Rattle.doc_response.specs.ResponseDocs.{document_seen};
-ghost use Rattle.key_device.specs.Gave.{Gave};
+ghost use Rattle.key_device.specs.Gave.{Counts, Gave};
 ghost use Rattle.key_device.specs.Plan.{Follows};
 ghost use Rattle.key_device.specs.Recording.{inner, talk};
 ghost use Rattle.mso_digests.specs.Digests.{have_length};
@@ -11,15 +11,16 @@ ghost use Rattle.mso_digests.specs.MsoView.{object_seen};
 ghost use Rattle.verdict_model.specs.Documents.{document_checks};
 ghost use Rattle.verdict_model.specs.Elements.{is_type_requested};
 ghost use Rattle.document_checks.specs.Checks.{issued_and_shown};
-ghost use Rattle.document_checks.specs.Ending.{came_to};
-ghost use Rattle.document_checks.specs.Views.{issued_seen, setting_seen};
-ghost use Rattle.document_checks.specs.declared.stop.Stop.TheVariants.{Device, Memory};
+ghost use Rattle.document_checks.specs.Views.{setting_seen};
+ghost use Rattle.issuer_checks.specs.Ending.{came_to, fails};
+ghost use Rattle.issuer_checks.specs.Views.{issued_seen};
+ghost use Rattle.issuer_checks.specs.declared.stop.Stop.TheVariants.{Device, Memory};
 
-use crate::issued::issuer_says;
+use crate::Setting;
 use crate::shown::shown;
-use crate::{Issued, Setting, Stop};
 use doc_request::RequestDraft;
 use doc_response::ResponseDoc;
+use issuer_checks::{Issued, Stop, issuer_says};
 use key_device::{KeyDevice, Recorder};
 use std::alloc::Global;
 use verdict_model::DocCheck;
@@ -47,11 +48,11 @@ fn issued_and_shown<'a, D: KeyDevice>(
     ensures asked { Follows (issued_and_shown (setting_seen setting.now) (document_seen document.now)) (talk device.old) (talk device.new) (came_to issued_seen result) }
     ensures lengths { IfOk result (λ it. have_length (object_seen it.object).digests ≡ true) }
     ensures gave { Gave D.gives D.unasked D.faults device.old device.new }
-    ensures cause { HasCause Device Memory (D.faults (inner device.old)) (D.faults (inner device.new)) result }
+    ensures counts { Counts (fails result) (D.faults (inner device.old)) (D.faults (inner device.new)) }
 {
     let it = match issuer_says(
         alloc,
-        setting,
+        &setting.trust,
         document.doc_type(),
         document.issuer_auth(),
         device,
@@ -66,7 +67,7 @@ fn issued_and_shown<'a, D: KeyDevice>(
 }
 
 /// What the issuer says of a document that is accepted, else why its checks end (ISO/IEC 18013-5, 9.3.1). `Stop::Device` is
-/// answered only where the device failed.
+/// answered exactly where the device's count of faults rose.
 #[tactic(auto, using(key_device::proofs::PlanLemmas::exits, key_device::proofs::GaveLemmas::gave_exits), unfolding(verdict_model::specs::Documents::document_checks))]
 pub fn document_checks<'a, D: KeyDevice>(
     alloc: Global,
@@ -78,6 +79,7 @@ pub fn document_checks<'a, D: KeyDevice>(
     ensures lengths { IfOk result (λ it. have_length (object_seen it.object).digests ≡ true) }
     ensures gave { Gave D.gives D.unasked D.faults device.old device.new }
     ensures cause { HasCause Device Memory (D.faults (inner device.old)) (D.faults (inner device.new)) result }
+    ensures counts { Counts (fails result) (D.faults (inner device.old)) (D.faults (inner device.new)) }
 {
     if !is_type_requested(setting.request, document.doc_type()) {
         return Err(Stop::Refused(DocCheck::DocNotRequested));

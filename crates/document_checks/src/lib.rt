@@ -1,5 +1,5 @@
-//! What a reader believes of a document (ISO/IEC 18013-5, 9.1.2, 9.1.3 and 9.3.1): the checks of its issuer's signature,
-//! its signer, its security object and its device, in their order, with the questions to the reader's key device.
+//! What a reader believes of a document (ISO/IEC 18013-5, 9.1.2, 9.1.3 and 9.3.1): the checks of what its issuer says and
+//! of its device, in their order, with the questions to the reader's key device.
 //!
 //! The one contract: the talk with the device gains exactly the questions of the definition, and the answer is the
 //! definition's over what was told: the object and the device key, or the first check that fails.
@@ -7,19 +7,10 @@
 
 mod device_proof;
 mod document;
-mod issued;
-mod issuer_auth;
-mod object;
-mod questions;
-mod roots;
 mod setting;
 mod sharing;
 mod shown;
-mod signer;
-mod stop;
 
 pub use document::document_checks;
-pub use issued::Issued;
 pub use setting::{Session, Setting};
 pub use sharing::types_are_send_and_sync;
-pub use stop::Stop;

@@ -1,7 +1,7 @@
 //! What a response is judged by.
 
-use cert_view::Root;
 use doc_request::RequestDraft;
+use issuer_checks::Trust;
 
 /// What both ends know of a session.
 #[derive(Clone, Copy)]
@@ -19,8 +19,6 @@ pub struct Setting<'a> {
     pub request: &'a RequestDraft,
     /// The session.
     pub session: Session<'a>,
-    /// The trusted roots, in their order.
-    pub roots: &'a [Root],
-    /// The moment of the judgement, in seconds since 1970.
-    pub moment: i64,
+    /// The trusted roots and the moment of the judgement.
+    pub trust: Trust<'a>,
 }

@@ -1,23 +1,21 @@
 //! That a device shows a document in a session.
 
 ghost use Rattle.std.specs.Prelude.{◌≡◌, IfOk};
-ghost use Rattle.mdoc_outside.specs.Faults.{HasCause};
 ghost use Rattle.cose_msgs.specs.MessageView.{authenticated, signed};
 ghost use Rattle.doc_response.specs.ResponseDocs.{document_seen};
-ghost use Rattle.key_device.specs.Gave.{Gave};
+ghost use Rattle.key_device.specs.Gave.{Counts, Gave};
 ghost use Rattle.key_device.specs.Plan.{Done, Follows};
 ghost use Rattle.key_device.specs.Recording.{inner, talk};
 ghost use Rattle.verdict_model.specs.Shown.{BySignature, ByMac, code_of, matches, shown, shown_by};
-ghost use Rattle.document_checks.specs.Ending.{came_to, checked};
+ghost use Rattle.issuer_checks.specs.Ending.{came_to, checked, fails};
 ghost use Rattle.document_checks.specs.Views.{proof_seen, session_seen};
-ghost use Rattle.document_checks.specs.declared.stop.Stop.TheVariants.{Device, Memory};
 
+use crate::Session;
 use crate::device_proof::{DeviceProof, device_proof};
-use crate::questions::is_signed;
-use crate::{Session, Stop};
 use cose_msgs::{Mac0, Sign1, mac_bytes, signed_bytes};
 use doc_response::{ResponseDoc, device_auth_bytes, mac_key};
 use hmac_hkdf::hmac;
+use issuer_checks::{Stop, is_signed};
 use key_device::{DeviceFault, KeyDevice, Point, Recorder};
 use mdoc_outside::Memory as OutOfMemory;
 use std::alloc::Global;
@@ -35,7 +33,7 @@ fn shown_by_signature<D: KeyDevice>(
 ) -> Result<(), Stop>
     ensures asked { Follows (shown_by (session_seen session.now) key.now payload.now (BySignature (signed proof.now))) (talk device.old) (talk device.new) (came_to (λ u. u) result) }
     ensures gave { Gave D.gives D.unasked D.faults device.old device.new }
-    ensures cause { HasCause Device Memory (D.faults (inner device.old)) (D.faults (inner device.new)) result }
+    ensures counts { Counts (fails result) (D.faults (inner device.old)) (D.faults (inner device.new)) }
 {
     let message = signed_bytes(alloc, proof.protected(), payload)?;
     match is_signed(key, message.as_slice(), proof.signature(), device) {
@@ -83,7 +81,7 @@ fn shown_by_mac<D: KeyDevice>(
 ) -> Result<(), Stop>
     ensures asked { Follows (shown_by (session_seen session.now) key.now payload.now (ByMac (authenticated proof.now))) (talk device.old) (talk device.new) (came_to (λ u. u) result) }
     ensures gave { Gave D.gives D.unasked D.faults device.old device.new }
-    ensures cause { HasCause Device Memory (D.faults (inner device.old)) (D.faults (inner device.new)) result }
+    ensures counts { Counts (fails result) (D.faults (inner device.old)) (D.faults (inner device.new)) }
 {
     let secret = match device.agree(session.key, key) {
         Ok(Some(secret)) => secret,
@@ -109,7 +107,7 @@ pub(crate) fn shown<D: KeyDevice>(
 ) -> Result<(), Stop>
     ensures asked { Follows (shown (session_seen session.now) key.now (document_seen document.now)) (talk device.old) (talk device.new) (came_to (λ u. u) result) }
     ensures gave { Gave D.gives D.unasked D.faults device.old device.new }
-    ensures cause { HasCause Device Memory (D.faults (inner device.old)) (D.faults (inner device.new)) result }
+    ensures counts { Counts (fails result) (D.faults (inner device.old)) (D.faults (inner device.new)) }
 {
     let Some(proof) = device_proof(document.device_auth()) else {
         return Err(Stop::Refused(DocCheck::DeviceAuthForm));

@@ -6,11 +6,11 @@ use Rattle.key_device.proofs.PlanStepLemmas.{each_cut, each_more, each_stopped, 
 use Rattle.key_device.specs.Plan.{Plan, Done, Follows}
 use Rattle.key_device.specs.PlanSteps.{◌>>=◌, each, turned, unless_fault}
 use Rattle.key_device.specs.declared.exchange.Exchange.{Exchange}
-use Rattle.document_checks.specs.Ending.{came_to as stop_came_to}
-use Rattle.document_checks.specs.declared.stop.Stop as read
-use Rattle.document_checks.specs.declared.stop.Stop.TheVariants as stops
+use Rattle.issuer_checks.specs.Ending.{came_to as stop_came_to, is_device}
+use Rattle.issuer_checks.specs.declared.stop.Stop as read
+use Rattle.issuer_checks.specs.declared.stop.Stop.TheVariants as stops
 use Rattle.package_model.specs.Checked.{Failure, as_failure}
-use Rattle.package_check.specs.Ending.{all_came_to, came_to, failure_of, is_device, is_unanswered}
+use Rattle.package_check.specs.Ending.{all_came_to, came_to, failure_of, is_unanswered}
 use Rattle.package_check.specs.declared.failure.Failure as found
 use Rattle.package_check.specs.declared.failure.Failure.TheVariants as ways
 use Rattle.verdict_model.specs.Steps.{Stop}

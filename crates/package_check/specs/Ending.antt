@@ -1,22 +1,12 @@
 -- What the checks of copies come to, as the definition has it.
 use Rattle.std.specs.Prelude.{ℕ, List, Bool, true, false, Option, Some, None, option_map, replicate, Result, Ok, Err}
-use Rattle.document_checks.specs.declared.stop.Stop.{Stop}
-use Rattle.document_checks.specs.declared.stop.Stop.TheVariants as stops
+use Rattle.issuer_checks.specs.declared.stop.Stop.{Stop}
+use Rattle.issuer_checks.specs.declared.stop.Stop.TheVariants as stops
 use Rattle.package_check.specs.declared.failure.Failure as found
 use Rattle.package_check.specs.declared.failure.Failure.TheVariants as ways
 use Rattle.package_model.specs.Checked.{Failure, DocFails, ItemFails, Unanswered}
 
--- whether a check ended since the device failed to answer
-abbrev pub is_device : Stop → Bool
-is_device stops.Device = true
-is_device (stops.Refused check) = false
-is_device stops.Memory = false
-
-abbrev pub fails : {A : Type 0} → Result A Stop → Bool
-fails (Ok value) = false
-fails (Err stop) = is_device stop
-
--- the same among the checks of a copy and its items
+-- whether the checks of a copy and its items ended since the device failed to answer
 abbrev pub is_unanswered : found.Failure → Bool
 is_unanswered ways.Device = true
 is_unanswered (ways.DocFails check) = false

@@ -12,11 +12,10 @@ ghost use Rattle.package_model.specs.Checked.{copy_checks, signature_of};
 ghost use Rattle.package_check.specs.Ending.{all_came_to, came_to, copy_fails};
 
 use crate::failure::{Failure, failure_of};
-use crate::issued::issuer_says;
 use crate::items::items_check;
-use crate::trust::Trust;
 use cbor_view::View;
 use doc_store::{Document, StoredCopy};
+use issuer_checks::{Trust, issuer_says};
 use key_device::{KeyDevice, Recorder};
 use std::alloc::Global;
 

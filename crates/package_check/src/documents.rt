@@ -13,9 +13,9 @@ ghost use Rattle.package_model.specs.Checked.{checked, checked_document, verdict
 
 use crate::copies::copies_checks;
 use crate::failure::Failure;
-use crate::trust::Trust;
 use cert_view::Roots;
 use doc_store::{Document, Store};
+use issuer_checks::Trust;
 use key_device::{DeviceFault, KeyDevice, Recorder};
 use mdoc_outside::{Memory, Octets, Rows};
 use package_model::PackageVerdict;

@@ -3,7 +3,7 @@
 ghost use Rattle.std.specs.Prelude.{◌≡◌};
 ghost use Rattle.package_check.specs.Ending.{failure_of};
 
-use document_checks::Stop;
+use issuer_checks::Stop;
 use verdict_model::{DocCheck, ElementCheck, Named};
 
 /// Why the checks of a copy end before the last of them.

@@ -9,13 +9,6 @@ mod copies;
 mod digest;
 mod documents;
 mod failure;
-mod issued;
-mod issuer_auth;
 mod items;
-mod object;
-mod questions;
-mod roots;
-mod signer;
-mod trust;
 
 pub use documents::check_package;

@@ -1,4 +1,3 @@
 mod InTurn
-mod Quiet
 mod Causes
 mod Moments

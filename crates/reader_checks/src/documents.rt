@@ -3,7 +3,8 @@
 ghost use Rattle.std.specs.Prelude.{◌≡◌, IfOk, [], Some, None, true};
 ghost use Rattle.mdoc_outside.specs.Faults.{HasCause};
 ghost use Rattle.doc_response.specs.ResponseDocs.{document_seen, documents_left};
-ghost use Rattle.document_checks.specs.Views.{issued_seen, setting_seen};
+ghost use Rattle.document_checks.specs.Views.{setting_seen};
+ghost use Rattle.issuer_checks.specs.Views.{issued_seen};
 ghost use Rattle.key_device.specs.Gave.{Gave};
 ghost use Rattle.key_device.specs.Plan.{Follows};
 ghost use Rattle.key_device.specs.PlanSteps.{each};
@@ -16,9 +17,10 @@ ghost use Rattle.reader_checks.specs.declared.judge_fault.JudgeFault.TheVariants
 
 use crate::JudgeFault;
 use doc_response::{ResponseDoc, ResponseDocs};
-use document_checks::{Issued, Setting, Stop, document_checks};
+use document_checks::{Setting, document_checks};
 use element_checks::{device_elements, element_verdicts};
-use key_device::{KeyDevice, Recorder, failures_told_are_counted};
+use issuer_checks::{Issued, Stop};
+use key_device::{KeyDevice, Recorder};
 use mdoc_outside::{Memory as OutOfMemory, Octets, Rows};
 use std::alloc::Global;
 use verdict_model::{DocCheck, DocVerdict};
@@ -73,7 +75,6 @@ fn judged_document<D: KeyDevice>(
     ensures gave { Gave D.gives D.unasked D.faults device.old device.new }
     ensures cause { HasCause Device Memory (D.faults (inner device.old)) (D.faults (inner device.new)) result }
 {
-    failures_told_are_counted::<D>();
     match document_checks(alloc, setting, document, device) {
         Ok(it) => match accepted_document(alloc, setting, document, &it) {
             Ok(verdict) => Ok(verdict),

@@ -17,6 +17,7 @@ use doc_request::RequestDraft;
 use doc_response::Response;
 use document_checks::{Session, Setting};
 use element_checks::unanswered;
+use issuer_checks::Trust;
 use key_device::{KeyDevice, Recorder};
 use std::alloc::Global;
 use verdict_model::Verdict;
@@ -39,11 +40,14 @@ pub fn judge<E: KeyDevice>(
     ensures cause { HasCause Device Memory (E.faults (inner device.old)) (E.faults (inner device.new)) result }
 {
     let session = Session { transcript, key };
+    let trust = Trust {
+        roots: roots.list(),
+        moment,
+    };
     let setting = Setting {
         request,
         session,
-        roots: roots.list(),
-        moment,
+        trust,
     };
     let documents = match judged_documents(alloc, &setting, response.documents(), device) {
         Ok(documents) => documents,

@@ -2,8 +2,9 @@ use Rattle.doc_response.specs.ResponseDocs.{document_seen}
 use Rattle.key_device.proofs.PlanLemmas.{then_more, ended}
 use Rattle.key_device.specs.PlanSteps.{unless_fault}
 use Rattle.verdict_model.specs.Documents.{and_shown}
-use Rattle.document_checks.specs.Views.{issued_seen, setting_seen}
-use Rattle.document_checks.proofs.ChecksInOrder.{stopped}
+use Rattle.document_checks.specs.Views.{setting_seen}
+use Rattle.issuer_checks.proofs.ChecksInOrder.{stopped}
+use Rattle.issuer_checks.specs.Views.{issued_seen}
 use Rattle.document_checks.proofs.document.issued_and_shown.Goals as goal
 
 pub returns-in-Ok-shown-clause-asked : goal.returns-in-Ok-shown-clause-asked

@@ -1,5 +1,5 @@
 use Rattle.doc_store.specs.StoredCopy.{copy_of}
-use Rattle.document_checks.specs.Views.{issued_seen}
+use Rattle.issuer_checks.specs.Views.{issued_seen}
 use Rattle.package_check.specs.Ending.{came_to}
 use Rattle.package_check.proofs.CopyLemmas.{copy_came, copy_stopped, same_cause}
 use Rattle.package_model.specs.Checked.{copy_checks, items_check}

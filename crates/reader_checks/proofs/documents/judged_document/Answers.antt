@@ -2,7 +2,7 @@ use Rattle.doc_response.specs.ResponseDocs.{document_seen}
 use Rattle.document_checks.specs.Views.{setting_seen}
 use Rattle.key_device.proofs.PlanStepLemmas.{turned_came}
 use Rattle.verdict_model.specs.Documents.{doc_verdict, judged_document}
-use Rattle.reader_checks.proofs.Causes.{cause_memory, cause_ok, refused_same}
+use Rattle.reader_checks.proofs.Causes.{cause_memory, cause_ok}
 use Rattle.reader_checks.proofs.documents.judged_document.Goals as goal
 
 pub returns-in-Ok-accepted_document-clause-asked : goal.returns-in-Ok-accepted_document-clause-asked
@@ -17,14 +17,10 @@ returns-in-Ok-refused_document-clause-asked g c =
     (turned_came (doc_verdict (setting_seen c.args.setting.now) (document_seen c.args.document.now)) (rw c.in-Err-Refused.field-0-is at c.in-Err-Refused.ensures.asked))
 
 pub returns-in-Ok-refused_document-clause-cause : goal.returns-in-Ok-refused_document-clause-cause
-returns-in-Ok-refused_document-clause-cause g c =
-    cause_ok _ (refused_same (setting_seen c.args.setting.now) (document_seen c.args.document.now) c.in-Err-Refused.check
-    c.failures_told_are_counted.ensures c.in-Err-Refused.ensures.gave (rw c.in-Err-Refused.field-0-is at c.in-Err-Refused.ensures.asked))
+returns-in-Ok-refused_document-clause-cause g c = cause_ok _ (rw c.in-Err-Refused.field-0-is at c.in-Err-Refused.ensures.counts)
 
 pub returns-in-Err-refused_document-clause-cause : goal.returns-in-Err-refused_document-clause-cause
-returns-in-Err-refused_document-clause-cause g c =
-    cause_memory (refused_same (setting_seen c.args.setting.now) (document_seen c.args.document.now) c.in-Err-Refused.check
-    c.failures_told_are_counted.ensures c.in-Err-Refused.ensures.gave (rw c.in-Err-Refused.field-0-is at c.in-Err-Refused.ensures.asked))
+returns-in-Err-refused_document-clause-cause g c = cause_memory (rw c.in-Err-Refused.field-0-is at c.in-Err-Refused.ensures.counts)
 
 pub returns-in-Err-Device-clause-asked : goal.returns-in-Err-Device-clause-asked
 unfolding judged_document

@@ -1,0 +1,2 @@
+pub mod ObjectLengths
+pub mod ChecksInOrder
