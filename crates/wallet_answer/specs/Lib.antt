@@ -1,4 +1,3 @@
 pub mod AnswerView
 pub mod Authenticated
-pub mod Nesting
 pub mod Places

@@ -21,7 +21,7 @@ ghost use Rattle.wallet_response.specs.Documents.{IsSound};
 use crate::Answer;
 use crate::answered::GENERAL_ERROR;
 use crate::authentications::authenticate_all;
-use crate::nesting::are_nested;
+use crate::nesting::parts_are_nested;
 use cbor_view::View;
 use doc_request::{DocAsk, Request};
 use key_device::{DeviceFault, KeyDevice, Recorder};
@@ -47,7 +47,7 @@ fn documents_in<'a>(alloc: Global, request: &Request<'a>) -> Result<Vec<DocAsk<'
     Ok(documents)
 }
 
-/// What is released of the documents, where a response has room for each issuer's signature.
+/// What is released of the documents: a response has room for each issuer's signature, since the file of a store leaves less.
 #[tactic(auto, using(crate::proofs::Nested::sound_selected))]
 fn select_sound<'a>(
     alloc: Global,
@@ -61,11 +61,8 @@ fn select_sound<'a>(
     ensures nothing { IfOk result (λ s. map name_seen s.nothing.items ≡ types_of_nothing (selections (setup_of setup.now) (map document_seen documents.now) (map reader_seen readers.now))) }
     ensures sound { IfOk result (λ s. AllByRecursion IsSound (map choice_seen s.choices.items)) }
 {
-    let selected = select(alloc, setup, documents, readers)?;
-    if !are_nested(&selected.choices) {
-        return Err(Memory);
-    }
-    Ok(selected)
+    parts_are_nested(setup.store);
+    select(alloc, setup, documents, readers)
 }
 
 /// The answer to a request whose readers are known.

@@ -1,38 +1,23 @@
-//! How deep an issuer's signature is nested.
+//! How deep the parts of a store are nested.
 
-ghost use Rattle.std.specs.Prelude.{◌≤◌, IsOk, IsTrue, map};
 ghost use Rattle.std.specs.List.{AllByRecursion};
-ghost use Rattle.cbor_view.specs.Reading.{reads, tree_of};
-ghost use Rattle.cbor_view.specs.Tree.{levels};
-ghost use Rattle.wallet_answer.specs.Nesting.{IsNested};
-ghost use Rattle.wallet_choice.specs.ChoiceView.{choice_seen};
+ghost use Rattle.cbor_view.specs.Spelling.{AreBytes};
+ghost use Rattle.doc_store.specs.StoreView.{documents_in};
+ghost use Rattle.store_laws.specs.Nested.{IsNestedDocument};
 
-use cbor_view::View;
-use wallet_choice::Choice;
+use doc_store::Store;
+use store_laws::stored_parts_are_nested;
 
-/// The most levels that a response leaves room for.
-const MOST_LEVELS: u32 = 28;
+/// A slice holds bytes. It does nothing.
+fn are_bytes(bytes: &[u8])
+    ensures { AreBytes bytes.now }
+{}
 
-/// Whether bytes are one item that a response leaves room for.
-#[tactic(auto, using(crate::proofs::Nested::read_ok, crate::proofs::Nested::read_levels))]
-fn is_nested(issuer_auth: &[u8]) -> bool
-    ensures reads { IsTrue result → IsOk (reads issuer_auth.now) }
-    ensures nesting { IsTrue result → levels (tree_of issuer_auth.now) ≤ 28 }
+/// The parts of a store are nested no deeper than the form of its file leaves room for, by a law of stores. Nothing is
+/// looked at: the calls stand for the proof's sake.
+pub(crate) fn parts_are_nested(store: &Store<'_>)
+    ensures { AllByRecursion IsNestedDocument (documents_in store.now) }
 {
-    match View::read(issuer_auth) {
-        Ok(item) => item.depth() <= MOST_LEVELS,
-        Err(_) => false,
-    }
-}
-
-/// Whether the issuer's signature of each document is one item that a response leaves room for.
-pub(crate) fn are_nested(choices: &[Choice<'_>]) -> bool
-    ensures { IsTrue result → AllByRecursion IsNested (map choice_seen choices.now) }
-{
-    for choice in choices {
-        if !is_nested(choice.issuer_auth) {
-            return false;
-        }
-    }
-    true
+    are_bytes(store.bytes());
+    stored_parts_are_nested();
 }
