@@ -201,11 +201,11 @@ impl Build {
         if bytes.len() >= 1 << 32 {
             return Err(Memory);
         }
-        let begun = self.bytes.len();
+        let start = self.bytes.len();
         self.head(major, bytes.len() as u64)?;
         let appended = self.append(bytes);
         if appended.is_err() {
-            self.bytes.truncate(begun);
+            self.bytes.truncate(start);
         }
         appended
     }

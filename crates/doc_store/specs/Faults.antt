@@ -62,7 +62,7 @@ nothing x = []
 
 -- ---- limits and names
 
--- the item that passes a limit on a list
+-- the item that exceeds a limit on a list
 abbrev pub beyond_at : LimitName → ℕ → Option PartialItem → List Fault
 beyond_at limit most None = []
 beyond_at limit most (Some g) = fault (checks.Limit limit (most + 1)) g ∷ []

@@ -40,7 +40,7 @@ fn key_at<'a>(entries: PartialPairs<'a>, place: usize) -> Option<PartialView<'a>
     None
 }
 
-/// The fault of the item that passes a limit, if there is one.
+/// The fault of the item that exceeds a limit, if there is one.
 pub(crate) fn beyond_at(
     limit: LimitName,
     most: usize,
@@ -55,7 +55,7 @@ pub(crate) fn beyond_at(
     }
 }
 
-/// The item of an array that passes a limit.
+/// The item of an array that exceeds a limit.
 pub(crate) fn items_beyond(items: PartialItems<'_>, limit: LimitName, most: usize) -> Option<Fault>
     requires { most < 2 ^ 32 }
     ensures { result ≡ first_fault (beyond limit most (partial_items_left items.entry)) }
@@ -63,7 +63,7 @@ pub(crate) fn items_beyond(items: PartialItems<'_>, limit: LimitName, most: usiz
     beyond_at(limit, most, item_at(items, most))
 }
 
-/// The key of a map that passes a limit.
+/// The key of a map that exceeds a limit.
 pub(crate) fn keys_beyond(entries: PartialPairs<'_>, limit: LimitName, most: usize) -> Option<Fault>
     requires { most < 2 ^ 32 }
     ensures { result ≡ first_fault (beyond limit most (keys_in (partial_pairs_left entries.entry))) }

@@ -17,6 +17,6 @@ pub enum StoreCheck {
     Doubled,
     /// The stored item there is none.
     Item(ItemFault),
-    /// This limit is passed there, by this number.
+    /// This limit is exceeded there, by this number.
     Limit(LimitName, u64),
 }

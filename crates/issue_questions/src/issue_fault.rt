@@ -14,7 +14,7 @@ pub enum IssueFault {
     Device,
     /// The dice failed: their count of faults rose in this call.
     Dice,
-    /// This limit is passed, by this number.
+    /// This limit is exceeded, by this number.
     Limit(LimitName, u64),
     /// Memory was wanting.
     Memory,

@@ -14,6 +14,6 @@ pub enum SpecCheck {
     Missing(u8),
     /// The time of the signature, the first and the last moment of the validity aren't in that order.
     Order,
-    /// This limit is passed at the line, by this number.
+    /// This limit is exceeded at the line, by this number.
     Limit(LimitName, u64),
 }

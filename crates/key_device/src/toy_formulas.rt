@@ -17,7 +17,7 @@ fn in_eight(number: u64) -> [u8; 8]
 }
 
 // 32 bytes and 32 more.
-fn joined(first: &[u8; 32], second: &[u8; 32]) -> [u8; 64]
+fn join(first: &[u8; 32], second: &[u8; 32]) -> [u8; 64]
     ensures { result ≡ first.now ++ second.now }
 {
     let mut bytes = [0; 64];
@@ -30,7 +30,7 @@ fn joined(first: &[u8; 32], second: &[u8; 32]) -> [u8; 64]
 fn point_bytes(point: &Point) -> [u8; 64]
     ensures { result ≡ point_bytes point.now }
 {
-    joined(&point.x, &point.y)
+    join(&point.x, &point.y)
 }
 
 // The digest under all formulas: of a name, the seed and two parts.
@@ -90,7 +90,7 @@ pub(crate) fn toy_signature(seed: u64, public: &Point, message: &[u8]) -> [u8; 6
     ensures { result ≡ toy_signature seed public.now message.now }
 {
     let public = point_bytes(public);
-    joined(
+    join(
         &toy_digest(b"mdoc-toy-r", seed, &public, message),
         &toy_digest(b"mdoc-toy-s", seed, &public, message),
     )

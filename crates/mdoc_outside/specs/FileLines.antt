@@ -4,4 +4,4 @@ use Rattle.mdoc_outside.specs.Lines.{Line, lines_from}
 use Rattle.mdoc_outside.specs.declared.file_lines.FileLines.{FileLines}
 
 abbrev pub lines_left : FileLines → List Line
-lines_left left = lines_from (left.passed + 1) left.rest.now
+lines_left left = lines_from (left.consumed + 1) left.rest.now

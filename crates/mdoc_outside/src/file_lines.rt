@@ -9,8 +9,8 @@ use crate::lines::{first_line, is_kept, trimmed};
 #[derive(Drop)]
 pub struct FileLines<'a> {
     pub(crate) rest: &'a [u8],
-    pub(crate) passed: u64,
-    ghost in_range: { passed + length rest.now < 2 ^ 64 },
+    pub(crate) consumed: u64,
+    ghost in_range: { consumed + length rest.now < 2 ^ 64 },
 }
 
 impl<'a> Iterator for FileLines<'a> {
@@ -29,12 +29,12 @@ impl<'a> Iterator for FileLines<'a> {
         while let Some((line, rest)) = first_line(self.rest) {
             *self = FileLines {
                 rest,
-                passed: self.passed + 1,
+                consumed: self.consumed + 1,
             };
             let bytes = trimmed(line);
             if is_kept(bytes) {
                 return Some(FileLine {
-                    number: self.passed,
+                    number: self.consumed,
                     bytes,
                 });
             }

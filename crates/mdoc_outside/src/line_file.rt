@@ -14,6 +14,6 @@ pub fn lines_of<'a>(text: &'a [u8]) -> FileLines<'a>
     let _len = text.len();
     FileLines {
         rest: text,
-        passed: 0,
+        consumed: 0,
     }
 }

@@ -1,4 +1,4 @@
--- What `import` prints tells nothing of the store but that the merged one passes a limit.
+-- What `import` prints tells nothing of the store but that the merged one exceeds a limit.
 use Rattle.std.proofs.Common.{◌≡◌, ℕ, ℤ, Bool, true, false, List, [], ◌∷◌, length, Option, Some, None, Result, Ok, Err, refl, sym, ap, subst, ◌∙◌}
 use Rattle.std.specs.Prelude.{codes, nat_le, option_map}
 use Rattle.doc_store.specs.Store.{Store}

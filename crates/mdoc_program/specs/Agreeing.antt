@@ -46,17 +46,17 @@ AgreeingStores =
     → FilesAgree one other (outcome o clock told answers).released
     → (outcome o clock told (with_store (files_named o) answers other)).lines ≡ (outcome o clock told answers).lines
 
--- a limit is passed
+-- a limit is exceeded
 abbrev pub IsLimit : Status → Type 0
 IsLimit (Limit limit number) = Unit {0}
 IsLimit status = ⊥
 
--- the same lines, unless one of the two passes a limit
+-- the same lines, unless one of the two exceeds a limit
 abbrev pub PrintsSame : Outcome → Outcome → Type 0
 PrintsSame one other = (IsLimit one.status → ⊥) → (IsLimit other.status → ⊥) → other.lines ≡ one.lines
 
 -- The law that `import`, which releases nothing, prints the same lines for every store file in place of the one that was
--- read: only that the merged store passes a limit can be told of it.
+-- read: only that the merged store exceeds a limit can be told of it.
 abbrev pub ImportsAlike : Type 0
 ImportsAlike =
     (words : List (List ℕ)) (o : Order) → order words ≡ Some o → o.command ≡ Import → (clock : ℤ) (told : Talks) (answers : List Answer) (one other : List ℕ)

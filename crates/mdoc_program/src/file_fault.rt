@@ -11,7 +11,7 @@ use std::alloc::{AllocError, AllocFailed};
 pub enum FileFault {
     /// The first line outside the grammar, from 1.
     Line(u64),
-    /// A limit that is passed, with the number that passes it.
+    /// A limit that is exceeded, with the number that exceeds it.
     Limit(LimitName, u64),
     /// Want of memory.
     Memory,

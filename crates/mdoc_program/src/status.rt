@@ -30,7 +30,7 @@ pub enum Status {
     Dice,
     /// A document is refused.
     Verdict,
-    /// A limit that is passed, with the number that passes it.
+    /// A limit that is exceeded, with the number that exceeds it.
     Limit(LimitName, u64),
     /// Want of memory.
     Memory,

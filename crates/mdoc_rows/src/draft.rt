@@ -183,7 +183,7 @@ fn many(alloc: Global, front: &str, behind: &str) -> Result<String, Fail> {
     Ok(text)
 }
 
-// A limit that is passed before a line outside the grammar is reported, and after one not.
+// A limit that is exceeded before a line outside the grammar is reported, and after one not.
 #[test]
 fn too_many_documents(rt: HostRuntime) -> Result<(), Fail> {
     for (front, behind, rules, status) in [

@@ -1,4 +1,4 @@
--- When a package passes its limit, and what is answered then.
+-- When a package exceeds its limit, and what is answered then.
 use Rattle.std.proofs.Common.{◌≡◌, ◌<◌, ◌≤◌, arith, Bool, true, false, ℕ, List, length, Option, Result, Ok, Err, refl}
 use Rattle.std.specs.Prelude.{if◌then◌else◌, IfOk, nat_lt}
 use Rattle.std.proofs.lemmas.Bool.{ltb-false}

@@ -1,4 +1,4 @@
--- Which line of a text is the first that makes it no wishes file, and when a limit is passed.
+-- Which line of a text is the first that makes it no wishes file, and when a limit is exceeded.
 use Rattle.std.specs.Prelude.{◌≡◌, ℕ, ◌≤◌, List, [], ◌∷◌, ◌++◌, length, max, Err}
 use Rattle.std.specs.Str.Lines.{lines}
 use Rattle.mdoc_outside.specs.Lines.{Line, file_lines}
@@ -26,7 +26,7 @@ pub data IsBadLine (text : List ℕ) (number : ℕ) : Type 0 where
 
 -- ---- limits
 
--- The last document of these passes a limit, or they do with it, by that number.
+-- The last document of these exceeds a limit, or they do with it, by that number.
 pub data Passes (documents : List DocDraft) (last : DocDraft) : LimitName → ℕ → Type 0 where
   documents_of_file : 17 ≤ length (documents ++ last ∷ []) → Passes documents last Documents 17
   wishes_of_document : 513 ≤ length last.wishes → Passes documents last Wishes 513

@@ -15,7 +15,7 @@ pub fn is_wishes_file()
 {}
 
 /// The line that is reported is the first after which no lines make a wishes file, limits apart; and where
-/// there is such a line it is reported, or a limit that was passed before.
+/// there is such a line it is reported, or a limit that was exceeded before.
 pub fn first_bad_line()
     ensures reported { (text : List ℕ) (number : ℕ) → wishes_of text ≡ Err (Line number) → IsBadLine text number }
     ensures found { (text : List ℕ) (number : ℕ) → IsBadLine text number → (wishes_of text ≡ Err (Line number)) ⊎ IsLimited text }
@@ -23,7 +23,7 @@ pub fn first_bad_line()
 
 /// A limit is reported only where lines of the text, from its first on, pass it, and up to there nothing is
 /// wrong with them; want of memory is no answer of a definition.
-pub fn passed_limit()
+pub fn exceeded_limit()
     ensures limit { (text : List ℕ) (limit : LimitName) (count : ℕ) → wishes_of text ≡ Err (Limit limit count) → PassesLimit text limit count }
     ensures memory { (text : List ℕ) → wishes_of text ≡ Err Memory → ⊥ }
 {}

@@ -5,4 +5,4 @@
 
 mod laws;
 
-pub use laws::{first_bad_line, is_wishes_file, passed_limit};
+pub use laws::{exceeded_limit, first_bad_line, is_wishes_file};
