@@ -2,12 +2,15 @@
 //! the issuer's signature over the object that is made from its items.
 //!
 //! The one contract: the calls follow the plan of the copies over what both devices told and the words that were dealt,
-//! and answer a fault only where the count of faults of that object rose.
+//! append the copies to which the plan comes, and answer a fault only where the count of faults of that object rose.
 #![tactic(auto)]
 
 mod copies;
+mod grouped_items;
+mod namespaces;
 mod prepared;
-mod released;
+mod room;
 mod signed_copy;
 
 pub use copies::issue_copies;
+pub use room::copy_room;

@@ -12,14 +12,14 @@ use Rattle.mso_digests.specs.Written.{AreOnce, AreTexts, is_same}
 use Rattle.issued_items.proofs.ElementLemmas.{ns_text}
 use Rattle.issued_items.specs.IssuedItems.{entries_of, entry_of, issued_item, items_after, number_in}
 
-number_both : (ns : List ℕ) (xs ys : List SpecElement) → number_in ns (xs ++ ys) ≡ number_in ns xs + number_in ns ys
+pub number_both : (ns : List ℕ) (xs ys : List SpecElement) → number_in ns (xs ++ ys) ≡ number_in ns xs + number_in ns ys
 number_both ns [] ys = omega arith
 number_both ns (x ∷ xs) ys = let rest = number_both ns xs ys in elim (bytes_eq x.ns ns) as (λ b. length (if b then x ∷ filter (λ (e : SpecElement). bytes_eq e.ns ns) (xs ++ ys) else filter (λ (e : SpecElement). bytes_eq e.ns ns) (xs ++ ys)) ≡ length (if b then x ∷ filter (λ (e : SpecElement). bytes_eq e.ns ns) xs else filter (λ (e : SpecElement). bytes_eq e.ns ns) xs) + number_in ns ys) [
   | true ↦ omega (arith, rest)
   | false ↦ rest
 ]
 
-number_own : (e : SpecElement) → number_in e.ns (e ∷ []) ≡ 1
+pub number_own : (e : SpecElement) → number_in e.ns (e ∷ []) ≡ 1
 number_own e = rw ((bytes_eq-Decides e.ns e.ns).1 refl) refl
 
 numbers_differ : (ns : List ℕ) (n : ℕ) (digest other : List ℕ) (before : List SpecElement) (e : SpecElement) → n < number_in ns before → is_same (ns, n, digest) (e.ns, number_in e.ns before, other) ≡ false

@@ -1,34 +1,41 @@
-//! The digests of items.
+//! The digests of the items of a copy.
 
-ghost use Rattle.std.specs.Prelude.{◌≡◌, IfOk};
-ghost use Rattle.issued_items.specs.IssuedItems.{entries_of, entry_of};
+ghost use Rattle.std.specs.Prelude.{◌≡◌, length, IfOk};
+ghost use Rattle.issuing.specs.SpecFacts.{AreElements};
+ghost use Rattle.issued_items.specs.IssuedItems.{entries_of, entry_of, items_of};
 
 use crate::IssuedItem;
+use crate::items::write_one;
+use issuing::SpecElement;
 use mdoc_outside::{Memory, Octets, Rows};
 use sha2::{Digest, Sha256};
 use std::alloc::Global;
 
 /// The digest of an item (ISO/IEC 18013-5, 9.1.2.4): the SHA-256 of its bytes as they are written, with its namespace
 /// and its digest identifier.
-fn digest_of(alloc: Global, item: &IssuedItem) -> Result<(Octets, u64, [u8; 32]), Memory>
-    ensures { IfOk result (λ e. e ≡ entry_of item.now) }
+fn digest_of(item: IssuedItem) -> (Octets, u64, [u8; 32])
+    ensures { result ≡ entry_of item }
 {
-    let ns = Octets::copy_of(alloc, item.ns.as_slice())?;
-    Ok((ns, item.number, Sha256::digest(item.raw.as_slice())))
+    let IssuedItem { ns, number, raw } = item;
+    (ns, number, Sha256::digest(raw.as_slice()))
 }
 
-/// The digests of items, in their order.
+/// The digests of the items of a spec's elements, each with its salt, in their order. No item is held once its digest
+/// is taken.
 pub fn digests_of(
     alloc: Global,
-    items: &[IssuedItem],
+    elements: &[SpecElement],
+    salts: &[[u8; 32]],
 ) -> Result<Rows<(Octets, u64, [u8; 32])>, Memory>
-    ensures { IfOk result (λ entries. entries ≡ entries_of items.now) }
+    requires elements { AreElements elements.now }
+    requires salts { length salts.now ≡ length elements.now }
+    ensures { IfOk result (λ entries. entries ≡ entries_of (items_of elements.now salts.now)) }
 {
     let mut entries = Vec::new(alloc);
-    for item in items {
+    for (place, element) in elements.iter().enumerate() {
         entries.reserve(1)?;
-        let entry = digest_of(alloc, item)?;
-        entries.push_reserved(entry);
+        let item = write_one(alloc, &elements[..place], element, &salts[place])?;
+        entries.push_reserved(digest_of(item));
     }
     Ok(Rows::from_vec(entries))
 }

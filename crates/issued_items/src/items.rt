@@ -3,18 +3,19 @@
 ghost use Rattle.std.specs.Prelude.{◌≡◌, ◌≤◌, length, IfOk, IsTrue};
 ghost use Rattle.cbor_view.specs.Tree.{levels};
 ghost use Rattle.cbor_view.specs.View.{part, tree};
-ghost use Rattle.issuing.specs.SpecFacts.{AreElements, is_element};
-ghost use Rattle.issued_items.specs.IssuedItems.{issued_item, items_of, number_in};
+ghost use Rattle.issuer_items.specs.WrittenItem.{item_bytes};
+ghost use Rattle.issuing.specs.SpecFacts.{is_element};
+ghost use Rattle.issued_items.specs.IssuedItems.{issued_item, number_in};
 
 use crate::IssuedItem;
 use cbor_view::View;
 use issuer_items::write_item;
 use issuing::SpecElement;
-use mdoc_outside::{Memory, Octets, Rows};
+use mdoc_outside::{Memory, Octets};
 use std::alloc::Global;
 
 /// How many of the elements are of that namespace.
-fn number_in(ns: &[u8], elements: &[SpecElement]) -> usize
+pub fn number_in(ns: &[u8], elements: &[SpecElement]) -> usize
     ensures number { result ≡ number_in ns.now elements.now }
     ensures few { result ≤ length elements.now }
 {
@@ -51,8 +52,21 @@ fn value_of(element: &SpecElement) -> View<'_>
     }
 }
 
+/// The bytes of the item of an element with that digest identifier (IssuerSignedItemBytes; ISO/IEC 18013-5, 8.3.2.1.2.2).
+pub fn write_element(
+    alloc: Global,
+    number: u64,
+    element: &SpecElement,
+    salt: &[u8; 32],
+) -> Result<Octets, Memory>
+    requires { IsTrue (is_element element.now) }
+    ensures { IfOk result (λ b. b ≡ item_bytes (record { digest_id = number; random = salt.now; name = element.now.name; value = element.now.value })) }
+{
+    write_item(alloc, number, salt, name_of(element), value_of(element))
+}
+
 /// The item of an element, which has these others before it.
-fn write_one(
+pub(crate) fn write_one(
     alloc: Global,
     before: &[SpecElement],
     element: &SpecElement,
@@ -62,27 +76,7 @@ fn write_one(
     ensures { IfOk result (λ i. i ≡ issued_item before.now element.now salt.now) }
 {
     let number = number_in(element.ns.as_slice(), before) as u64;
-    let raw = write_item(alloc, number, salt, name_of(element), value_of(element))?;
+    let raw = write_element(alloc, number, element, salt)?;
     let ns = Octets::copy_of(alloc, element.ns.as_slice())?;
     Ok(IssuedItem { ns, number, raw })
-}
-
-/// The items of the elements of a spec, each with its salt. Their digest identifiers are 0, 1, 2 and so on within a
-/// namespace.
-pub fn write_items(
-    alloc: Global,
-    elements: &[SpecElement],
-    salts: &[[u8; 32]],
-) -> Result<Rows<IssuedItem>, Memory>
-    requires elements { AreElements elements.now }
-    requires salts { length salts.now ≡ length elements.now }
-    ensures { IfOk result (λ items. items ≡ items_of elements.now salts.now) }
-{
-    let mut items = Vec::new(alloc);
-    for (place, element) in elements.iter().enumerate() {
-        items.reserve(1)?;
-        let item = write_one(alloc, &elements[..place], element, &salts[place])?;
-        items.push_reserved(item);
-    }
-    Ok(Rows::from_vec(items))
 }

@@ -2,7 +2,8 @@
 //! 9.1.2.4).
 //!
 //! The one contract: there is one item of each element of a spec, numbered within its namespace, with its salt, and the
-//! object of a copy has the digest of each of its items and no others.
+//! object of a copy has the digest of each of its items and no others. An item is written when it is wanted: no call
+//! holds more than one.
 #![tactic(auto)]
 
 mod digests;
@@ -13,6 +14,6 @@ mod objects;
 
 pub use digests::digests_of;
 pub use issued_item::IssuedItem;
-pub use items::write_items;
+pub use items::{number_in, write_element};
 pub use laws::object_of_a_copy_is_made_from_its_items;
 pub use objects::{document_type, write_object};

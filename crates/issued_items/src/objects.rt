@@ -1,13 +1,13 @@
 //! The security object of a copy.
 
-ghost use Rattle.std.specs.Prelude.{◌≡◌, IfOk, Ok};
+ghost use Rattle.std.specs.Prelude.{◌≡◌, length, IfOk, Ok};
 ghost use Rattle.issuing.specs.Spec.{fields};
-ghost use Rattle.issued_items.specs.IssuedItems.{entries_of, items_of, payload};
+ghost use Rattle.issued_items.specs.IssuedItems.{payload};
 ghost use Rattle.mso_digests.specs.Object.{object};
 ghost use Rattle.mso_digests.specs.Written.{drafted};
 ghost use Rattle.issued_items.specs.IssuedItems.{object_draft};
 
-use crate::{IssuedItem, digests_of};
+use crate::digests_of;
 use issuing::Spec;
 use key_device::Point;
 use mdoc_outside::{Memory, Octets};
@@ -25,21 +25,20 @@ pub fn document_type(spec: &Spec) -> &str
     }
 }
 
-/// The security object of a copy (MobileSecurityObjectBytes; ISO/IEC 18013-5, 9.1.2.4): the digests of its items and
-/// its own device key, with the type and the moments of its spec.
+/// The security object of the copy with these salts (MobileSecurityObjectBytes; ISO/IEC 18013-5, 9.1.2.4): the digests
+/// of its items and its own device key, with the type and the moments of its spec.
 #[tactic(auto, using(crate::proofs::ObjectLemmas::update_is))]
 pub fn write_object(
     alloc: Global,
     spec: &Spec,
     key: &Point,
-    items: &[IssuedItem],
     salts: &[[u8; 32]],
 ) -> Result<Octets, Memory>
-    requires { items.now ≡ items_of (fields spec.now).elements salts.now }
+    requires { length salts.now ≡ length (fields spec.now).elements }
     ensures written { IfOk result (λ b. b ≡ payload (fields spec.now) key.now salts.now) }
     ensures read { IfOk result (λ b. object b ≡ Ok (drafted (object_draft (fields spec.now) key.now salts.now))) }
 {
-    let digests = digests_of(alloc, items)?;
+    let digests = digests_of(alloc, spec.elements(), salts)?;
     write_mso(
         alloc,
         &MsoDraft {

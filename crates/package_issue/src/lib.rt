@@ -7,6 +7,7 @@
 
 mod issued;
 mod packages;
+mod room;
 
 pub use issue_questions::IssueFault;
 pub use issued::Issued;

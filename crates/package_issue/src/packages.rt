@@ -8,9 +8,12 @@ ghost use Rattle.key_device.specs.Gave.{Gave};
 ghost use Rattle.key_device.specs.Plan.{FollowsAll};
 ghost use Rattle.key_device.specs.Recording.{inner, talk};
 ghost use Rattle.issue_questions.specs.Ends.{Cause, end_at};
-ghost use Rattle.package_issue.specs.Package.{issued_package, package_bytes, within_limit};
+ghost use Rattle.package_issue.specs.Package.{issued_package, within_limit};
+ghost use Rattle.store_write.specs.Written.{package_head};
 
 use crate::Issued;
+use crate::room::package_room;
+use cbor_write::Build;
 use document_signer::{Signer, signer_of};
 use issue_questions::IssueFault;
 use issued_copies::issue_copies;
@@ -19,16 +22,18 @@ use issuing::Spec;
 use key_device::{KeyDevice, Recorder};
 use mdoc_outside::{Dealt, Dice, LimitName, Memory, Octets};
 use std::alloc::Global;
-use store_write::write_package;
+use store_write::put_package_head;
 
 /// The most bytes of a package.
-const MOST_BYTES: usize = 16_777_216;
+pub(crate) const MOST_BYTES: usize = 16_777_216;
 
-/// The bytes of the package of a spec with these copies.
-fn package_of(alloc: Global, spec: &Spec, copies: &[Octets]) -> Result<Octets, Memory>
-    ensures { IfOk result (λ b. b ≡ package_bytes (fields spec.now) copies.now) }
+/// The package of a spec up to its copies, with room for these.
+fn begin(alloc: Global, spec: &Spec, signer: &Signer) -> Result<Build, Memory>
+    ensures { IfOk result (λ b. b ≡ package_head (fields spec.now).doc_type (fields spec.now).uses_mac) }
 {
-    write_package(alloc, document_type(spec), spec.uses_mac(), copies)
+    let mut build = Build::with_room(alloc, package_room(spec, signer))?;
+    put_package_head(&mut build, document_type(spec), spec.uses_mac())?;
+    Ok(build)
 }
 
 /// What was issued, where the package is within its limit.
@@ -70,19 +75,19 @@ pub fn issue<D: KeyDevice, E: KeyDevice, R: Dice>(
         Ok(signer) => signer,
         Err(fault) => return Err(IssueFault::from(fault)),
     };
-    let copies = match issue_copies(alloc, spec, &signer, holder, issuer, dice) {
-        Ok(copies) => copies,
-        Err(fault) => return Err(fault),
-    };
-    let bytes = match package_of(alloc, spec, copies.as_slice()) {
-        Ok(bytes) => bytes,
+    let mut build = match begin(alloc, spec, &signer) {
+        Ok(build) => build,
         Err(_) => return Err(IssueFault::Memory),
     };
+    match issue_copies(alloc, &mut build, spec, &signer, holder, issuer, dice) {
+        Ok(()) => {}
+        Err(fault) => return Err(fault),
+    }
     let Signer {
         key: _,
         certificate,
         root,
     } = signer;
     drop(certificate);
-    within_limit(root, bytes)
+    within_limit(root, build.finish())
 }

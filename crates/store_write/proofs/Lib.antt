@@ -1,1 +1,2 @@
 pub mod InRow
+pub mod Parts

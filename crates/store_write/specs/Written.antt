@@ -1,9 +1,9 @@
 -- The store file as it is written, which is also the form of a package: every head as short as it can be (RFC 8949,
 -- section 4.2.1), the keys in the order of their tables, items and issuer's signatures as they are stored.
-use Rattle.std.specs.Prelude.{ℕ, List, [], ◌∷◌, map, Bool, true, false, Some}
+use Rattle.std.specs.Prelude.{ℕ, List, [], ◌∷◌, ◌++◌, map, Bool, true, false, Some}
 use Rattle.mdoc_outside.specs.declared.key_name.KeyName.TheVariants as keys
-use Rattle.cbor_view.specs.Shortest.{array_bytes, boolean_bytes, text_bytes, uint_bytes}
-use Rattle.cbor_maps.specs.Writing.{Fields, named_map}
+use Rattle.cbor_view.specs.Shortest.{array_bytes, boolean_bytes, shortest_head, text_bytes, uint_bytes}
+use Rattle.cbor_maps.specs.Writing.{Fields, key_bytes, map_head, named_map, onto}
 use Rattle.doc_response.specs.Answered.{items_map}
 use Rattle.doc_store.specs.Store.{Copy, Document, Store}
 
@@ -48,3 +48,24 @@ store_map documents = named_map (store_fields documents)
 
 abbrev pub store_bytes : Store → List ℕ
 store_bytes documents = store_map (map document_bytes documents)
+
+-- ---- what stands first
+
+-- in a copy, before the map of its items
+unfoldable pub copy_head : ℕ → Bool → List ℕ → List ℕ
+copy_head key used issuer_auth =
+    onto (map_head 4) ((keys.Key, Some (uint_bytes key)) ∷ (keys.Used, Some (boolean_bytes used)) ∷ (keys.IssuerAuth, Some issuer_auth) ∷ [])
+    ++ key_bytes keys.NameSpaces
+
+-- in a document, before the array of its copies
+unfoldable pub document_head : List ℕ → Bool → List ℕ
+document_head doc_type uses_mac =
+    onto (map_head 3) ((keys.DocType, Some (text_bytes doc_type)) ∷ (keys.Auth, Some (uint_bytes (auth_number uses_mac))) ∷ []) ++ key_bytes keys.Copies
+
+-- in a store, before the array of its documents
+unfoldable pub store_head : List ℕ
+store_head = onto (map_head 2) ((keys.Version, Some (uint_bytes 1)) ∷ []) ++ key_bytes keys.Documents
+
+-- in a store of one document, before the array of its copies
+abbrev pub package_head : List ℕ → Bool → List ℕ
+package_head doc_type uses_mac = store_head ++ shortest_head 4 1 ++ document_head doc_type uses_mac

@@ -9,27 +9,20 @@ ghost use Rattle.store_write.specs.CopyView.{copy_seen};
 ghost use Rattle.store_write.specs.Written.{copy_bytes};
 
 use crate::CopyDraft;
-use crate::fields::{count_of, put_key, put_map};
+use crate::fields::count_of;
+use crate::heads::put_copy_head;
 use crate::room::copy_room;
 use cbor_write::Build;
 use doc_response::{ReleasedItem, put_items};
 use doc_store::{Document, StoredCopy};
-use mdoc_outside::{KeyName, Memory, Octets};
+use mdoc_outside::{Memory, Octets};
 use std::alloc::Global;
 
 /// Appends a copy.
-#[tactic(auto, unfolding(crate::specs::Written::copy_bytes))]
 pub fn put_copy(alloc: Global, build: &mut Build, copy: &CopyDraft<'_>) -> Result<(), Memory>
     ensures { OnOk result (build.new ≡ build.old ++ copy_bytes (copy_seen copy.now)) }
 {
-    put_map(build, 4)?;
-    put_key(build, KeyName::Key)?;
-    build.uint(u64::from(copy.key))?;
-    put_key(build, KeyName::Used)?;
-    build.boolean(copy.used)?;
-    put_key(build, KeyName::IssuerAuth)?;
-    build.append(copy.issuer_auth)?;
-    put_key(build, KeyName::NameSpaces)?;
+    put_copy_head(build, copy.key, copy.used, copy.issuer_auth)?;
     put_items(alloc, build, copy.items)
 }
 

@@ -6,24 +6,20 @@ ghost use Rattle.doc_store.specs.Document.{document_of};
 ghost use Rattle.store_write.specs.Written.{document_bytes, store_bytes};
 
 use crate::copies::put_stored_copies;
-use crate::fields::{VERSION, auth_number, count_of, put_key, put_map};
+use crate::fields::count_of;
+use crate::heads::{put_document_head, put_store_head};
 use crate::room::store_room;
 use cbor_write::Build;
 use doc_store::Document;
-use mdoc_outside::{KeyName, Memory, Octets};
+use mdoc_outside::{Memory, Octets};
 use std::alloc::Global;
 
 /// Appends a document.
-#[tactic(auto, unfolding(crate::specs::Written::document_map))]
+#[tactic(auto, unfolding(crate::specs::Written::document_map, crate::specs::Written::document_head))]
 fn put_document(alloc: Global, build: &mut Build, document: &Document<'_>) -> Result<(), Memory>
     ensures { OnOk result (build.new ≡ build.old ++ document_bytes (document_of document.now)) }
 {
-    put_map(build, 3)?;
-    put_key(build, KeyName::DocType)?;
-    build.text(document.doc_type())?;
-    put_key(build, KeyName::Auth)?;
-    build.uint(auth_number(document.uses_mac()))?;
-    put_key(build, KeyName::Copies)?;
+    put_document_head(build, document.doc_type(), document.uses_mac())?;
     put_stored_copies(alloc, build, document)
 }
 
@@ -39,15 +35,12 @@ fn put_documents(alloc: Global, build: &mut Build, documents: &[Document<'_>]) -
 }
 
 /// The bytes of a store of these documents.
-#[tactic(auto, unfolding(crate::specs::Written::store_map))]
+#[tactic(auto, unfolding(crate::specs::Written::store_map, crate::specs::Written::store_head))]
 pub fn write_store(alloc: Global, documents: &[Document<'_>]) -> Result<Octets, Memory>
     ensures { IfOk result (λ b. b ≡ store_bytes (map document_of documents.now)) }
 {
     let mut build = Build::with_room(alloc, store_room(documents))?;
-    put_map(&mut build, 2)?;
-    put_key(&mut build, KeyName::Version)?;
-    build.uint(VERSION)?;
-    put_key(&mut build, KeyName::Documents)?;
+    put_store_head(&mut build)?;
     put_documents(alloc, &mut build, documents)?;
     Ok(build.finish())
 }

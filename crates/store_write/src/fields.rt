@@ -27,7 +27,7 @@ pub(crate) fn put_key(build: &mut Build, name: KeyName) -> Result<(), Memory>
 }
 
 /// A count as a head has it; one that no head has is answered by want of memory.
-pub(crate) fn count_of(count: usize) -> Result<u32, Memory>
+pub fn count_of(count: usize) -> Result<u32, Memory>
     ensures { IfOk result (λ small. small ≡ count) }
 {
     u32::try_from(count).map_err(|_| Memory)

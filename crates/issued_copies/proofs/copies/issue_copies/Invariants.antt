@@ -1,19 +1,18 @@
--- So far the plan was followed as often.
-use Rattle.std.proofs.Common.{◌≡◌, Ok}
+-- So far the plan was followed as often as copies were appended.
+use Rattle.std.proofs.Common.{◌≡◌}
 use Rattle.mdoc_outside.specs.Dealt.{dealt, inner as dice_of}
 use Rattle.mdoc_outside.specs.GaveWords.{GaveWords}
 use Rattle.issuing.specs.Spec.{fields}
 use Rattle.key_device.specs.Gave.{Gave}
-use Rattle.key_device.specs.Plan.{FollowsAll, Came}
-use Rattle.key_device.specs.PlanSteps.{times}
 use Rattle.key_device.specs.Recording.{inner, talk}
+use Rattle.issued_copies.proofs.CopyLemmas.{SoFar}
 use Rattle.issued_copies.specs.Copies.{copy}
 use Rattle.issued_copies.proofs.copies.issue_copies.Given as goal
 
 abbrev pub invariant-loop-place : goal.invariant-loop-place
 invariant-loop-place g l = record {
-  asked : FollowsAll (times l.place (copy (fields l.spec) l.signer)) (talk l.fn.holder) (talk l.fn.issuer) (dealt l.fn.dice)
-      (talk l.holder) (talk l.issuer) (dealt l.dice) (Came (Ok l.issued.items));
+  so_far : SoFar (copy (fields l.spec) l.signer) l.place l.initial.build l.build (talk l.fn.holder) (talk l.fn.issuer) (dealt l.fn.dice)
+      (talk l.holder) (talk l.issuer) (dealt l.dice);
   holder : Gave g.D.KeyDevice.gives g.D.KeyDevice.unasked g.D.KeyDevice.faults l.fn.holder l.holder;
   issuer : Gave g.E.KeyDevice.gives g.E.KeyDevice.unasked g.E.KeyDevice.faults l.fn.issuer l.issuer;
   words : GaveWords g.R.Dice.gives g.R.Dice.faults l.fn.dice l.dice;

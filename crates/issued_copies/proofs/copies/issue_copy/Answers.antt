@@ -34,9 +34,13 @@ returns-in-Err-draw_salts g c = record {
 pub returns-in-Ok-signed_copy : goal.returns-in-Ok-signed_copy
 unfolding copy
 returns-in-Ok-signed_copy g c = record {
-  asked = all_more (unless_fault (with_key (fields c.args.spec.now) c.args.signer.now)) (by_one _ _ c.in-Ok.ensures.asked)
-      (all_more (unless_fault (with_salts (fields c.args.spec.now) c.args.signer.now c.in-Ok.made)) (by_dice _ _ (rw c.elements.ensures at c.in-Ok-draw_salts.ensures.asked))
-      (by_other _ _ (rw c.as_slice.ensures at c.in-Ok-signed_copy.ensures.asked)));
+  asked = record {
+    value = c.in-Ok-signed_copy.ensures.asked.value;
+    joined = c.in-Ok-signed_copy.ensures.asked.joined;
+    asked = all_more (unless_fault (with_key (fields c.args.spec.now) c.args.signer.now)) (by_one _ _ c.in-Ok.ensures.asked)
+        (all_more (unless_fault (with_salts (fields c.args.spec.now) c.args.signer.now c.in-Ok.made)) (by_dice _ _ (rw c.elements.ensures at c.in-Ok-draw_salts.ensures.asked))
+        (by_other _ _ (rw c.as_slice.ensures at c.in-Ok-signed_copy.ensures.asked.asked)));
+  };
   holder = c.in-Ok.ensures.gave;
   issuer = c.in-Ok-signed_copy.ensures.gave;
   words = c.in-Ok-draw_salts.ensures.gave;

@@ -4,7 +4,8 @@ use Rattle.key_device.proofs.GaveLemmas.{gave_none}
 use Rattle.key_device.proofs.PlanLemmas.{ended, then_more, unasked}
 use Rattle.key_device.specs.PlanSteps.{unless_fault}
 use Rattle.issue_questions.proofs.IssueLemmas.{caused_ok, caused_then, device_ended, device_memory}
-use Rattle.issued_copies.specs.Copies.{with_signature}
+use Rattle.issued_copies.specs.Copies.{issued_copy, with_signature}
+use Rattle.store_write.specs.Written.{copy_bytes}
 use Rattle.issued_copies.proofs.signed_copy.signed_copy.Goals as goal
 
 pub returns-in-Err : goal.returns-in-Err
@@ -20,9 +21,12 @@ returns g c = record {
 
 pub returns-in-Ok-finish : goal.returns-in-Ok-finish
 returns-in-Ok-finish g c = record {
-  asked = rw (c.in-Ok-finish.ensures, c.in-Ok.ensures.items, c.in-Ok.ensures.payload)
-      (then_more (unless_fault (with_signature (fields c.args.spec.now) c.args.signer.now c.args.made.now c.args.salts.now))
-      (rw (c.as_slice.ensures, c.in-Ok.ensures.message) at c.in-Ok-sign.ensures.asked) (ended _));
+  asked = record {
+    value = copy_bytes (issued_copy (fields c.args.spec.now) c.args.signer.now c.args.made.now c.args.salts.now c.in-Ok-sign.signature);
+    joined = rw c.in-Ok.ensures.payload at c.in-Ok-finish.ensures;
+    asked = then_more (unless_fault (with_signature (fields c.args.spec.now) c.args.signer.now c.args.made.now c.args.salts.now))
+        (rw (c.as_slice.ensures, c.in-Ok.ensures.message) at c.in-Ok-sign.ensures.asked) (ended _);
+  };
   gave = c.in-Ok-sign.ensures.gave;
   cause = caused_ok _ c.in-Ok-sign.ensures.cause.done;
 }

@@ -1,4 +1,5 @@
-use Rattle.std.proofs.Common.{refl, ◌∙◌}
+use Rattle.std.proofs.Common.{◌≡◌, ◌++◌, ℕ, List, refl, sym, ap, ◌∙◌}
+use Rattle.cbor_view.specs.Shortest.{array_bytes}
 use Rattle.mdoc_outside.proofs.GaveWordsLemmas.{words_none}
 use Rattle.key_device.proofs.AllPlanLemmas.{all_more, all_unasked, by_other}
 use Rattle.key_device.proofs.GaveLemmas.{gave_none, gave_then}
@@ -7,7 +8,8 @@ use Rattle.issuing.specs.Spec.{fields}
 use Rattle.issue_questions.proofs.IssueLemmas.{all_ended_early, by_issuer, failed_then, issuer_failed}
 use Rattle.issue_questions.specs.Ends.{of_device}
 use Rattle.package_issue.proofs.LimitLemmas.{limit_causes, limit_ends, limit_within}
-use Rattle.package_issue.specs.Package.{issued_package, with_copies, with_signer}
+use Rattle.package_issue.specs.Package.{issued_package, package_bytes, with_copies, with_signer}
+use Rattle.store_write.proofs.Parts.{package_parts}
 use Rattle.package_issue.proofs.packages.issue.Goals as goal
 
 pub returns-in-Err : goal.returns-in-Err
@@ -18,6 +20,17 @@ returns-in-Err g c = record {
   issuer = c.in-Err.ensures.gave;
   words = words_none refl refl;
   cause = rw c.from.ensures (issuer_failed c.in-Err.fault refl refl c.in-Err.ensures.cause);
+  within = tt;
+}
+
+pub returns-in-Err-begin : goal.returns-in-Err-begin
+unfolding issued_package
+returns-in-Err-begin g c = record {
+  asked = all_more (unless_fault (with_signer (fields c.args.spec.now))) (by_other _ _ c.in-Ok.ensures.asked) (all_unasked refl refl refl);
+  holder = gave_none _;
+  issuer = c.in-Ok.ensures.gave;
+  words = words_none refl refl;
+  cause = (refl, c.in-Ok.ensures.cause.done, refl);
   within = tt;
 }
 
@@ -33,26 +46,18 @@ returns-in-Err-issue_copies g c = record {
   within = tt;
 }
 
-pub returns-in-Err-package_of : goal.returns-in-Err-package_of
-unfolding issued_package
-returns-in-Err-package_of g c = record {
-  asked = all_more (unless_fault (with_signer (fields c.args.spec.now))) (by_other _ _ c.in-Ok.ensures.asked)
-      (all_more (unless_fault (with_copies (fields c.args.spec.now) c.in-Ok.signer.root)) c.in-Ok-issue_copies.ensures.asked (all_unasked refl refl refl));
-  holder = c.in-Ok-issue_copies.ensures.holder;
-  issuer = gave_then c.in-Ok.ensures.gave c.in-Ok-issue_copies.ensures.issuer;
-  words = c.in-Ok-issue_copies.ensures.words;
-  cause = (c.in-Ok-issue_copies.ensures.cause.0, c.in-Ok-issue_copies.ensures.cause.1 ∙ c.in-Ok.ensures.cause.done, c.in-Ok-issue_copies.ensures.cause.2);
-  within = tt;
-}
-
 pub returns : goal.returns
 unfolding issued_package
-returns g c = rw (c.within_limit.ensures, c.in-Ok-package_of.ensures, c.as_slice.ensures) (record {
-  asked = all_more (unless_fault (with_signer (fields c.args.spec.now))) (by_other _ _ c.in-Ok.ensures.asked)
-      (all_more (unless_fault (with_copies (fields c.args.spec.now) c.in-Ok.signer.root)) c.in-Ok-issue_copies.ensures.asked (limit_ends _ _ _ _ _));
-  holder = c.in-Ok-issue_copies.ensures.holder;
-  issuer = gave_then c.in-Ok.ensures.gave c.in-Ok-issue_copies.ensures.issuer;
-  words = c.in-Ok-issue_copies.ensures.words;
-  cause = limit_causes _ _ _ _ _ _ _ _ (c.in-Ok-issue_copies.ensures.cause.0, c.in-Ok-issue_copies.ensures.cause.1 ∙ c.in-Ok.ensures.cause.done, c.in-Ok-issue_copies.ensures.cause.2);
-  within = limit_within _ _;
-})
+returns g c =
+    let made = c.in-Ok-issue_copies.ensures.asked in
+    let bytes_are : c.finish.result ≡ package_bytes (fields c.args.spec.now) made.value
+    = c.finish.ensures ∙ made.joined ∙ ap (λ (head : List ℕ). head ++ array_bytes made.value) c.in-Ok-begin.ensures ∙ sym (package_parts (fields c.args.spec.now).doc_type (fields c.args.spec.now).uses_mac made.value) in
+    rw (c.within_limit.ensures, bytes_are) (record {
+      asked = all_more (unless_fault (with_signer (fields c.args.spec.now))) (by_other _ _ c.in-Ok.ensures.asked)
+          (all_more (unless_fault (with_copies (fields c.args.spec.now) c.in-Ok.signer.root)) made.asked (limit_ends _ _ _ _ _));
+      holder = c.in-Ok-issue_copies.ensures.holder;
+      issuer = gave_then c.in-Ok.ensures.gave c.in-Ok-issue_copies.ensures.issuer;
+      words = c.in-Ok-issue_copies.ensures.words;
+      cause = limit_causes _ _ _ _ _ _ _ _ (c.in-Ok-issue_copies.ensures.cause.0, c.in-Ok-issue_copies.ensures.cause.1 ∙ c.in-Ok.ensures.cause.done, c.in-Ok-issue_copies.ensures.cause.2);
+      within = limit_within _ _;
+    })
