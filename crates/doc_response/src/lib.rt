@@ -37,6 +37,7 @@ pub use device_auth::DeviceAuth;
 pub use groups::{put_document_error, put_errors, put_items};
 pub use laws::{written_items_are_read, written_status_is_read};
 pub use missing_element::MissingElement;
+pub use namespaces::firsts;
 pub use released_item::ReleasedItem;
 pub use response::Response;
 pub use response_doc::ResponseDoc;

@@ -30,8 +30,8 @@ fn add<'a>(found: &mut Vec<&'a str>, text: &'a str) -> Result<(), Memory>
     Ok(())
 }
 
-/// Each text at its first place.
-pub(crate) fn firsts<'a>(alloc: Global, list: &[&'a str]) -> Result<Vec<&'a str>, Memory>
+/// Each text of a list, at its first place: the namespaces of a list of items, say.
+pub fn firsts<'a>(alloc: Global, list: &[&'a str]) -> Result<Vec<&'a str>, Memory>
     ensures { IfOk result (λ found. texts found.items ≡ firsts (texts list.now)) }
 {
     let mut found = Vec::new(alloc);
