@@ -6,7 +6,7 @@ use Rattle.std.proofs.lemmas.List.{length-map}
 use Rattle.std.proofs.lemmas.Slice.Eq.{bytes_eq-Decides}
 use Rattle.cbor_view.specs.Shortest.{shortest_head, text_bytes}
 use Rattle.doc_response.proofs.WriterLemmas.{counted, items_written}
-use Rattle.doc_response.specs.Answered.{firsts, grouped, items_map, namespace_entry, of_namespace}
+use Rattle.doc_response.specs.Answered.{firsts, items_map, namespace_entry, of_namespace}
 use Rattle.doc_response.specs.Namespaces.{count_of_text, entry_bytes}
 use Rattle.issued_items.proofs.ItemLemmas.{number_both}
 use Rattle.issued_items.specs.IssuedItems.{issued_item, items_after, items_of, number_in, placed_of, raw_items}
