@@ -6,7 +6,7 @@ use Rattle.std.proofs.lemmas.List.{length-map}
 use Rattle.std.proofs.lemmas.Slice.Eq.{bytes_eq-Decides}
 use Rattle.cbor_view.specs.Shortest.{shortest_head, text_bytes}
 use Rattle.doc_response.proofs.WriterLemmas.{counted, items_written}
-use Rattle.doc_response.specs.Answered.{firsts, grouped, items_map, namespace_entry, of_namespace}
+use Rattle.doc_response.specs.Answered.{firsts, items_map, namespace_entry, of_namespace}
 use Rattle.doc_response.specs.Namespaces.{count_of_text, entry_bytes}
 use Rattle.issued_items.proofs.ItemLemmas.{number_both}
 use Rattle.issued_items.specs.IssuedItems.{issued_item, items_after, items_of, number_in, placed_of, raw_items}
@@ -22,9 +22,6 @@ Pair = List ℕ × List ℕ
 
 left_at : {A : Type 0} (xs : List A) (p : ℕ) (x d : A) → p < length xs → x ≡ get_or xs p d → drop p xs ≡ x ∷ drop (p + 1) xs
 left_at xs p x d within is = rw add-one (drop-cons xs p d within ∙ ap (λ y. y ∷ drop (suc p) xs) (sym is))
-
-pub names_left : (elements : List SpecElement) (p : ℕ) (e : SpecElement) → p < length elements → e ≡ get_or elements p e → map ns_of (drop p elements) ≡ e.ns ∷ map ns_of (drop (p + 1) elements)
-names_left elements p e within is = ap (λ (es : List SpecElement). map ns_of es) (left_at elements p e e within is)
 
 -- ---- the namespaces of items are those of their elements
 

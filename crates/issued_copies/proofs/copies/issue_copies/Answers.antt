@@ -1,5 +1,4 @@
-use Rattle.std.proofs.Common.{◌≡◌, ◌++◌, refl, ◌∙◌, arith}
-use Rattle.cbor_view.specs.Shortest.{shortest_head}
+use Rattle.std.proofs.Common.{◌≡◌, refl, ◌∙◌, arith}
 use Rattle.mdoc_outside.proofs.GaveWordsLemmas.{words_none, words_then}
 use Rattle.key_device.proofs.AllPlanLemmas.{all_unasked}
 use Rattle.key_device.proofs.GaveLemmas.{gave_none, gave_then}

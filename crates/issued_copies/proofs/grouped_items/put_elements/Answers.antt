@@ -1,4 +1,4 @@
-use Rattle.std.proofs.Common.{◌≡◌, ◌<◌, length, refl, arith}
+use Rattle.std.proofs.Common.{◌<◌, length, refl, arith}
 use Rattle.issued_copies.proofs.GroupLemmas.{few_more, more_counted, more_written}
 use Rattle.issued_copies.proofs.grouped_items.put_elements.Goals as goal
 
