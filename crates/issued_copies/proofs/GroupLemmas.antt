@@ -23,9 +23,6 @@ Pair = List ℕ × List ℕ
 left_at : {A : Type 0} (xs : List A) (p : ℕ) (x d : A) → p < length xs → x ≡ get_or xs p d → drop p xs ≡ x ∷ drop (p + 1) xs
 left_at xs p x d within is = rw add-one (drop-cons xs p d within ∙ ap (λ y. y ∷ drop (suc p) xs) (sym is))
 
-pub names_left : (elements : List SpecElement) (p : ℕ) (e : SpecElement) → p < length elements → e ≡ get_or elements p e → map ns_of (drop p elements) ≡ e.ns ∷ map ns_of (drop (p + 1) elements)
-names_left elements p e within is = ap (λ (es : List SpecElement). map ns_of es) (left_at elements p e e within is)
-
 -- ---- the namespaces of items are those of their elements
 
 names_after : (before es : List SpecElement) (salts : List (List ℕ)) → length salts ≡ length es → map (λ (pair : Pair). pair.0) (raw_items (items_after before es salts)) ≡ map ns_of es
