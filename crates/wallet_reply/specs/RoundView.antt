@@ -1,5 +1,5 @@
 -- What contracts see of a round.
-use Rattle.std.specs.Prelude.{◌≡◌, ◌≤◌, List, Option, Some, None, Result, Ok, Err}
+use Rattle.std.specs.Prelude.{◌≡◌, ◌≤◌, Option, Some, None, Result, Ok, Err}
 use Rattle.session_seal.specs.Wallet.{WalletSession, next_place}
 use Rattle.session_seal.specs.declared.kept.Kept.{Kept}
 use Rattle.session_seal.specs.declared.wallet_end.WalletEnd.{WalletEnd}
