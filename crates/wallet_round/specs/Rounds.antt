@@ -1,8 +1,8 @@
 -- What the round of a message comes to.
-use Rattle.std.specs.Prelude.{◌≡◌, ◌≤◌, ¬◌, ℕ, List, Option, Some, None, Result, Ok, Err}
+use Rattle.std.specs.Prelude.{◌≡◌, ℕ, List, Some, None, Result, Ok, Err}
 use Rattle.key_device.specs.Plan.{Follows, Plan, Done, bind}
 use Rattle.key_device.specs.declared.exchange.Exchange.{Exchange}
-use Rattle.session_seal.specs.Wallet.{WalletOpened, WalletSession, WalletStart, next_place, wallet_establishes, wallet_opens}
+use Rattle.session_seal.specs.Wallet.{WalletOpened, WalletSession, WalletStart, wallet_establishes, wallet_opens}
 use Rattle.wallet_model.specs.Round.{WalletRound, round_of, session_at}
 use Rattle.wallet_model.specs.Setup.{Setup}
 use Rattle.wallet_reply.specs.RoundView.{GoesOn, round_seen}
@@ -40,6 +40,10 @@ abbrev pub IsFirstRound : Setup → WalletStart → List ℕ → List Exchange �
 IsFirstRound W start message old new (Ok r) = First W start message old new r
 IsFirstRound W start message old new (Err wanting) = IsWanting (first_plan W start message) start old new wanting
 
+-- what a call came to that goes by a plan of a round from a session on
+abbrev pub IsRound : Plan WalletRound → WalletSession → List Exchange → List Exchange → Result Round (Unanswered WalletSession) → Type 0
+IsRound plan session old new (Ok r) = Follows plan old new (Some (round_seen r)) × GoesOn session r.after
+IsRound plan session old new (Err wanting) = IsWanting plan session old new wanting
+
 abbrev pub IsNextRound : Setup → WalletSession → List ℕ → List Exchange → List Exchange → Result Round (Unanswered WalletSession) → Type 0
-IsNextRound W session message old new (Ok r) = Follows (next_plan W session message) old new (Some (round_seen r)) × GoesOn session r.after
-IsNextRound W session message old new (Err wanting) = IsWanting (next_plan W session message) session old new wanting
+IsNextRound W session message old new result = IsRound (next_plan W session message) session old new result

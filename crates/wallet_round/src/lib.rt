@@ -5,12 +5,14 @@
 //! is wanting before a question the state is as it was; else the session is lost.
 #![tactic(auto)]
 
-mod first_round;
-mod next_round;
+mod ending;
+mod first_message;
+mod later_message;
+mod room;
 mod sharing;
 mod unanswered;
 
-pub use first_round::first_round;
-pub use next_round::next_round;
+pub use first_message::first_round;
+pub use later_message::next_round;
 pub use sharing::types_are_send_and_sync;
 pub use unanswered::Unanswered;

@@ -7,14 +7,17 @@ ghost use Rattle.wallet_choice.specs.SetupView.{setup_of};
 ghost use Rattle.wallet_round.specs.Rounds.{IsFirstRound};
 
 use crate::Unanswered;
+use crate::ending::end_round;
+use crate::room::Room;
 use key_device::{KeyDevice, Recorder};
-use session_seal::WalletEngaged;
+use session_seal::{Stop, WalletEngaged};
 use std::alloc::Global;
 use wallet_choice::WalletSetup;
-use wallet_reply::Round;
+use wallet_reply::{Round, reply_to};
 
 /// The round of the first message, SessionEstablishment (ISO/IEC 18013-5, 9.1.1.4): the device is asked for the session's
 /// secret, and the text is answered. A message that isn't opened ends the session.
+#[tactic(auto, using(key_device::proofs::GaveLemmas::gave_exits))]
 pub fn first_round<D: KeyDevice>(
     alloc: Global,
     setup: &WalletSetup<'_>,
@@ -26,5 +29,16 @@ pub fn first_round<D: KeyDevice>(
     ensures round { IsFirstRound (setup_of setup.now) state message.now (talk device.old) (talk device.new) result }
     ensures gave { Gave D.gives D.unasked D.faults device.old device.new }
 {
-    Err(Unanswered::Back(state))
+    let Ok(room) = Room::new(alloc) else {
+        return Err(Unanswered::Back(state));
+    };
+    match state.establish(alloc, message, device) {
+        Ok((asked, text)) => match reply_to(alloc, setup, asked, text.as_slice(), device) {
+            Ok(round) => Ok(round),
+            Err(_) => Err(Unanswered::Spent),
+        },
+        Err(Stop::Ended(ended)) => Ok(end_round(alloc, room, &ended)),
+        Err(Stop::Back(state)) => Err(Unanswered::Back(state)),
+        Err(Stop::Spent) => Err(Unanswered::Spent),
+    }
 }
