@@ -52,8 +52,8 @@ module _ (W : Setup) (start : WalletStart) (message : List ℕ) where
       → Follows (first_plan W start message) old new None × ¬ (new ≡ old)
   first_spent {old} {mid} {new} asked text slice is first second = (
     then_more with_round first (cut_short (λ round. Done (Ok (asked, text), round))
-    (subst (λ (bytes : List ℕ). Follows (turned (answered_round asked) (answer W asked bytes)) mid new None) is second)),
-    longer (wallet_establishes start message) (turned (answered_round asked) (answer W asked slice)) first second (agreed start message first.gained (asked, text) first.fits)
+        (subst (λ (bytes : List ℕ). Follows (turned (answered_round asked) (answer W asked bytes)) mid new None) is second)),
+    longer (wallet_establishes start message) (turned (answered_round asked) (answer W asked slice)) first second (agreed start message first.gained (asked, text) first.fits),
   )
 
   -- or the message wasn't opened.
