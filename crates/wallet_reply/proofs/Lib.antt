@@ -1,0 +1,3 @@
+pub mod Followed
+pub mod ShortAnswer
+pub mod Exits

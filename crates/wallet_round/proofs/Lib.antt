@@ -1,0 +1,4 @@
+pub mod Opened
+pub mod Talks
+pub mod FirstRound
+pub mod NextRound
