@@ -54,11 +54,15 @@ placed W session m old new Spent later within is = tt
 
 -- ---- a message that was answered, or wasn't for want of memory
 
+in_state : (node : Node) (state : NodeState) (joined : Joined) (r : Round) (reply : Reply) (after : Node)
+    → Settles node joined r reply after → Settles (node_in node state) joined r reply after
+in_state node state joined r reply after settles = record { keeps = settles.keeps; message = settles.message; ended = settles.ended }
+
 pub settled : (node : Node) (state : NodeState) (m : List ℕ) (old new : List Exchange) (joined : Joined) (r : Round) (result : Result Reply Memory) (after : Node)
     → node.state ≡ states.Spent → IsRoundOf node.setup state m old new r
     → IfOk result (λ reply. Settles node joined r reply after) → OnErr result ((after.state ≡ node.state) × (r.places.items ≡ [] → ⊥))
     → Answers (node_in node state) m old new joined result after
-settled node state m old new joined r (Ok reply) after spent is settles lost = record { r = r; is_round = is; settles = settles }
+settled node state m old new joined r (Ok reply) after spent is settles lost = record { r = r; is_round = is; settles = in_state node state joined r reply after settles }
 settled node state m old new joined r (Err wanting) after spent is settles lost = inr (released_asked node.setup state m old new r is lost.1, lost.0 ∙ spent)
 
 pub first_lost : (node : Node) (start : WalletStart) (m : List ℕ) (old new : List Exchange) (wanting : Unanswered WalletStart) (after : Node)

@@ -55,8 +55,8 @@ impl<'a> WalletNode<'a> {
         dice: &mut Dealt<R>,
         device: &mut Recorder<D>,
     ) -> Result<WalletNode<'a>, StartFault>
-        requires nfc { setup.entry.nfc ≡ false }
-        requires request { IsNone setup.entry.request }
+        requires nfc { setup.nfc ≡ false }
+        requires request { IsNone setup.request }
         ensures starts { Starts (setup_of setup.entry) (talk device.old) (talk device.new) (dealt dice.old) (dealt dice.new) result }
         ensures gave { Gave D.gives D.unasked D.faults device.old device.new }
         ensures words { GaveWords R.gives R.faults dice.old dice.new }

@@ -6,7 +6,7 @@ use std::marker::Model;
 /// A session that has answered, and waits for the next message, one of the second to the thousandth.
 #[derive(Drop)]
 pub(crate) struct Waiting {
-    open: WalletOpen,
+    session: WalletOpen,
 }
 
 impl Model for Waiting {
@@ -15,21 +15,21 @@ impl Model for Waiting {
 
     ghost Value = { WalletSession };
 
-    ghost view = { λ w. w.open };
+    ghost view = { λ w. w.session };
 
-    ghost invariant = { λ w. (1 < w.open.place) × (w.open.place ≤ 1000) };
+    ghost invariant = { λ w. (1 < w.session.place) × (w.session.place ≤ 1000) };
 }
 
 impl Waiting {
     ghost use Rattle.std.specs.Prelude.{◌≡◌, ◌<◌, ◌≤◌};
 
     /// The session, at the place of the next message.
-    pub fn new(open: WalletOpen) -> Waiting
-        requires later { 1 < open.place }
-        requires within { open.place ≤ 1000 }
-        ensures { result ≡ open }
+    pub fn new(session: WalletOpen) -> Waiting
+        requires later { 1 < session.place }
+        requires within { session.place ≤ 1000 }
+        ensures { result ≡ session }
     {
-        Waiting { open }
+        Waiting { session }
     }
 
     /// The session, whose place is one of those.
@@ -38,7 +38,7 @@ impl Waiting {
         ensures later { 1 < result.place }
         ensures within { result.place ≤ 1000 }
     {
-        let Waiting { open } = self;
-        open
+        let Waiting { session } = self;
+        session
     }
 }

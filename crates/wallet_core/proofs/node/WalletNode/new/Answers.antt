@@ -5,4 +5,4 @@ use Rattle.wallet_core.proofs.node.WalletNode.new.Goals as goal
 
 pub returns-in-Ok-clause-starts : goal.returns-in-Ok-clause-starts
 returns-in-Ok-clause-starts g c =
-    begins (setup_of c.args.setup.now) c.in-Ok.started (node_seen c.of_start.result) c.in-Ok.ensures.asked c.in-Ok.ensures.engagement c.of_start.ensures
+    begins (setup_of c.args.setup) c.in-Ok.started (node_seen c.of_start.result) c.in-Ok.ensures.asked c.in-Ok.ensures.engagement c.of_start.ensures
