@@ -1,5 +1,5 @@
 -- What a node makes of a message or of a further fragment, at each exit.
-use Rattle.std.proofs.Common.{◌≡◌, ◌⊎◌, inl, inr, ◌<◌, ◌≤◌, ◌+◌, ℕ, List, [], ◌∷◌, ◌++◌, Option, Some, None, Result, Ok, Err, refl, sym, ◌∙◌, ap, subst, arith}
+use Rattle.std.proofs.Common.{◌≡◌, inl, inr, ◌<◌, ◌≤◌, ◌+◌, ℕ, List, [], Option, Some, None, Result, Ok, Err, refl, sym, ◌∙◌, ap, subst, arith}
 use Rattle.std.specs.Prelude.{IfOk, OnErr}
 use Rattle.ble_fragments.specs.Joins.{Joined}
 use Rattle.key_device.specs.declared.exchange.Exchange.{Exchange}
@@ -7,11 +7,9 @@ use Rattle.mdoc_outside.specs.declared.fragment.Fragment.{Fragment}
 use Rattle.mdoc_outside.specs.declared.memory.Memory.{Memory}
 use Rattle.session_seal.specs.Wallet.{WalletOpened, WalletSession, WalletStart}
 use Rattle.session_seal.specs.declared.wallet_end.WalletEnd.{WalletEnd}
-use Rattle.session_seal.specs.declared.wallet_end.WalletEnd.TheVariants as ends
 use Rattle.wallet_model.specs.Setup.{Setup}
 use Rattle.wallet_model.specs.Stands as states
 use Rattle.wallet_model.specs.Stands.{Node, NodeState, StandsFor}
-use Rattle.wallet_model.specs.Wallet.{Run}
 use Rattle.wallet_reply.specs.RoundView.{GoesOn}
 use Rattle.wallet_reply.specs.declared.after_round.AfterRound.{AfterRound}
 use Rattle.wallet_reply.specs.declared.after_round.AfterRound.TheVariants as rounds
@@ -26,7 +24,7 @@ use Rattle.wallet_core.proofs.Unasked.{released_asked}
 use Rattle.wallet_core.specs.Answering.{Answers, IsLost, IsPlaced, IsRoundOf, Settles, first_left, next_left}
 use Rattle.wallet_core.specs.NodeView.{node_in}
 use Rattle.wallet_core.specs.StateView.{IsWithin, over_end}
-use Rattle.wallet_core.specs.Taking.{Rests, RestsAfterEnd, Takes}
+use Rattle.wallet_core.specs.Taking.{RestsAfterEnd, Takes}
 use Rattle.wallet_core.specs.declared.reply.Reply.{Reply}
 
 -- ---- where a session is after a round
@@ -76,10 +74,6 @@ pub next_lost : (node : Node) (session : WalletSession) (m : List ℕ) (old new 
     → IsLost (node_in node (states.Open session)) old new after
 next_lost node session m old new (Back same) after is left = inl (is.1, left ∙ ap (λ (s : WalletSession). node_in node (states.Open s)) is.0)
 next_lost node session m old new Spent after is left = inr (is.1, ap (λ (n : Node). n.state) left)
-
--- a state that was taken out, and isn't put back
-pub stays_spent : (node : Node) → node.state ≡ states.Spent → node ≡ node_in node states.Spent
-stays_spent node is = ap (λ (state : NodeState). node_in node state) is
 
 -- nothing was asked, and nothing changed
 pub unchanged : (node : Node) (talk : List Exchange) → IsLost node talk talk node

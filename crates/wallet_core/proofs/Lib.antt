@@ -1,5 +1,4 @@
 pub mod Start
-pub mod Closing
 pub mod Unasked
 pub mod Rounds
 pub mod Takes

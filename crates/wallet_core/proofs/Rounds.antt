@@ -1,5 +1,5 @@
 -- What the round of a message adds to the rounds before it.
-use Rattle.std.proofs.Common.{◌≡◌, ◌<◌, ◌≤◌, ◌+◌, ℕ, List, [], ◌∷◌, ◌++◌, length, Bool, true, false, Option, Some, None, Ok, Err, refl, sym, ◌∙◌, ap, subst, arith}
+use Rattle.std.proofs.Common.{◌≡◌, ◌<◌, ◌+◌, ℕ, List, [], ◌∷◌, ◌++◌, length, Bool, false, Option, Some, None, Ok, Err, refl, sym, ◌∙◌, ap, subst, arith}
 use Rattle.std.proofs.lemmas.Bool.Decides.{nat_tests}
 use Rattle.std.specs.Prelude.{◌==◌, if◌then◌else◌}
 use Rattle.key_device.proofs.PlanEquations.{bind_bind, bind_same}
@@ -12,7 +12,7 @@ use Rattle.session_seal.specs.Wallet.{WalletOpened, WalletSession, WalletStart, 
 use Rattle.session_seal.specs.declared.wallet_end.WalletEnd.{WalletEnd}
 use Rattle.wallet_model.proofs.Always.{Always, Anything, always_anything, always_bind}
 use Rattle.wallet_model.specs.Answer.{answer}
-use Rattle.wallet_model.specs.Round.{WalletRound, answered_round, later_opened, round, round_of, session_at}
+use Rattle.wallet_model.specs.Round.{WalletRound, later_opened, round, round_of, session_at}
 use Rattle.wallet_model.specs.Setup.{Setup}
 use Rattle.wallet_model.specs.Wallet.{WalletRounds}
 use Rattle.wallet_round.specs.Rounds.{first_plan, next_plan}

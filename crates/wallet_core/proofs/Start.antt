@@ -1,6 +1,6 @@
 -- What a node stands for when it was started.
-use Rattle.std.proofs.Common.{◌≡◌, ℕ, List, [], ◌++◌, None, Ok, refl, sym, ◌∙◌, subst}
-use Rattle.ble_fragments.specs.Whole.{Whole, whole}
+use Rattle.std.proofs.Common.{◌≡◌, ℕ, List, [], None, Ok, refl, sym, ◌∙◌, subst}
+use Rattle.ble_fragments.specs.Whole.{whole}
 use Rattle.ble_fragments.specs.declared.ending.Ending.TheVariants.{Open}
 use Rattle.key_device.proofs.AllPlanLemmas.{all_ended, all_more}
 use Rattle.key_device.specs.Plan.{Came, FollowsAll}
@@ -8,7 +8,7 @@ use Rattle.key_device.specs.PlanSteps.{unless_fault}
 use Rattle.key_device.specs.declared.exchange.Exchange.{Exchange}
 use Rattle.session_seal.specs.Wallet.{WalletStart}
 use Rattle.wallet_model.specs.Setup.{Setup}
-use Rattle.wallet_model.specs.Stands.{AwaitsFirst, KeepsState, Node, NodeState}
+use Rattle.wallet_model.specs.Stands.{KeepsState, Node, NodeState}
 use Rattle.wallet_model.specs.Wallet.{Run, run_from, started, wallet}
 use Rattle.wallet_start.specs.Ends.{start_end}
 use Rattle.wallet_start.specs.declared.started.Started.{Started}

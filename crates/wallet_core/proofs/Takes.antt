@@ -1,5 +1,5 @@
 -- What a node stands for after one fragment more.
-use Rattle.std.proofs.Common.{◌≡◌, ◌<◌, ◌≤◌, ◌+◌, ℕ, List, [], ◌∷◌, ◌++◌, length, Option, Some, None, Result, Ok, Err, refl, sym, ◌∙◌, ap, subst, append-nil, arith}
+use Rattle.std.proofs.Common.{◌≡◌, ◌<◌, ◌+◌, ℕ, List, [], ◌∷◌, ◌++◌, length, Option, Some, None, Result, Ok, Err, refl, sym, ◌∙◌, ap, subst, append-nil, arith}
 use Rattle.ble_fragments.specs.Joins.{Joined, Joins}
 use Rattle.ble_fragments.specs.Whole.{whole}
 use Rattle.ble_fragments.specs.declared.ending.Ending as lists
@@ -12,7 +12,6 @@ use Rattle.message_joining.specs.Hearing.{HearsMessage, HearsNothing}
 use Rattle.round_model.specs.Rounds.{end_of_rounds}
 use Rattle.session_seal.specs.Wallet.{WalletOpened, WalletSession, WalletStart, next_place}
 use Rattle.session_seal.specs.declared.wallet_end.WalletEnd.{WalletEnd}
-use Rattle.session_seal.specs.declared.wallet_end.WalletEnd.TheVariants as ends
 use Rattle.wallet_model.specs.Round.{WalletRound, session_at}
 use Rattle.wallet_model.specs.Setup.{Setup}
 use Rattle.wallet_model.specs.Stands as states
@@ -24,10 +23,10 @@ use Rattle.wallet_reply.specs.declared.after_round.AfterRound.{AfterRound}
 use Rattle.wallet_reply.specs.declared.after_round.AfterRound.TheVariants as rounds
 use Rattle.wallet_reply.specs.declared.round.Round.{Round}
 use Rattle.wallet_round.specs.Rounds.{First, GoesOnFrom, next_plan}
-use Rattle.wallet_steps.proofs.Taken.{is_after_end, is_answered, is_list_end, is_quiet, is_round_end}
+use Rattle.wallet_steps.proofs.Taken.{is_answered, is_list_end, is_quiet, is_round_end}
 use Rattle.wallet_steps.specs.Taking.{IsLive, Took, list_end, node_with, rounds_with, with_round}
 use Rattle.wallet_core.proofs.Rounds.{HasReply, first_followed, first_reply, next_followed, next_reply}
-use Rattle.wallet_core.specs.Answering.{Answers, HasAnswered, IsRoundOf, Settles}
+use Rattle.wallet_core.specs.Answering.{Answers, IsRoundOf}
 use Rattle.wallet_core.specs.NodeView.{node_in}
 use Rattle.wallet_core.specs.StateView.{after_state}
 use Rattle.wallet_core.specs.Taking.{Listens, Takes, listened}

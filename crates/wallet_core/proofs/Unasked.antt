@@ -1,23 +1,22 @@
 -- Nothing is released in a round that asks no question.
-use Rattle.std.proofs.Common.{◌≡◌, ℕ, List, [], ◌∷◌, ◌++◌, Bool, true, false, cond, Option, Some, None, Result, Ok, Err, refl, sym, ◌∙◌, ap, subst, append-nil}
+use Rattle.std.proofs.Common.{◌≡◌, ℕ, List, [], ◌∷◌, Bool, true, false, cond, Option, Some, Result, Ok, Err, refl, sym, ◌∙◌, ap, subst, append-nil}
 use Rattle.std.proofs.lemmas.List.{append_cancel_left}
 use Rattle.std.specs.List.{flat_map}
 use Rattle.doc_request.specs.Asked.{Asked, Document, Documents, NoRequest, NotCbor, asked}
-use Rattle.doc_response.specs.declared.device_auth.DeviceAuth.{DeviceAuth}
 use Rattle.key_device.specs.Plan.{Plan, Done, Then, Other, Draw, Follows, Walks, bind}
-use Rattle.key_device.specs.PlanSteps.{each, turned, unless_fault}
+use Rattle.key_device.specs.PlanSteps.{each, turned}
 use Rattle.key_device.specs.declared.device_fault.DeviceFault.{DeviceFault}
 use Rattle.key_device.specs.declared.exchange.Exchange.{Exchange}
 use Rattle.session_seal.specs.Wallet.{WalletOpened, WalletSession, WalletStart, wallet_establishes, wallet_opens}
 use Rattle.wallet_model.specs.Answer.{Answer, answer, answer_asked, answer_request, answer_selections, answer_to_readers, answer_with, authenticated, device_auth, known_readers, mac_auth, signed_auth}
 use Rattle.wallet_model.specs.Released.{Choice, Selection, choices, selections}
-use Rattle.wallet_model.specs.Round.{WalletRound, answered_round, round_of}
+use Rattle.wallet_model.specs.Round.{WalletRound, round_of}
 use Rattle.wallet_model.specs.Setup.{Setup}
 use Rattle.wallet_model.specs.Stands as states
 use Rattle.wallet_model.specs.Stands.{NodeState}
 use Rattle.wallet_reply.specs.RoundView.{round_seen}
 use Rattle.wallet_reply.specs.declared.round.Round.{Round}
-use Rattle.wallet_round.specs.Rounds.{First, first_plan, next_plan}
+use Rattle.wallet_round.specs.Rounds.{first_plan, next_plan}
 use Rattle.wallet_core.specs.Answering.{IsRoundOf}
 
 -- a fact of the outcome that a plan comes to with no question asked

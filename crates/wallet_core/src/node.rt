@@ -23,8 +23,8 @@ use crate::waiting::Waiting;
 use crate::{Announced, Reply};
 use ble_fragments::Ending;
 use key_device::{KeyDevice, Recorder};
-use message_joining::{Heard, Joining, may_end_message};
 use mdoc_outside::{Dealt, Dice, Fragment, Memory, Octets};
+use message_joining::{Heard, Joining, may_end_message};
 use session_seal::{WalletEnd, WalletEngaged, WalletOpen};
 use std::alloc::Global;
 use std::mem;
@@ -266,7 +266,13 @@ impl<'a> WalletNode<'a> {
         ensures same { IsSameSetup (node_seen self.old) (node_seen self.new) }
         ensures gave { Gave D.gives D.unasked D.faults device.old device.new }
     {
-        match next_round(self.alloc, &self.setup, waiting.into_open(), message, device) {
+        match next_round(
+            self.alloc,
+            &self.setup,
+            waiting.into_open(),
+            message,
+            device,
+        ) {
             Ok(round) => self.settle(joining, round),
             Err(wanting) => {
                 self.restore_next(wanting);

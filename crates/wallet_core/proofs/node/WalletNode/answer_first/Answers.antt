@@ -1,5 +1,4 @@
 use Rattle.key_device.specs.Recording.{talk}
-use Rattle.wallet_choice.specs.SetupView.{setup_of}
 use Rattle.wallet_model.specs.Stands as states
 use Rattle.wallet_core.specs.NodeView.{node_seen}
 use Rattle.wallet_core.proofs.Exits.{first_lost, settled, within_first}

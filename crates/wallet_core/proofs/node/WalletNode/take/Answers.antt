@@ -1,4 +1,4 @@
-use Rattle.std.proofs.Common.{◌≡◌, None, Some, refl, sym}
+use Rattle.std.proofs.Common.{◌≡◌, None, Some, refl}
 use Rattle.key_device.proofs.GaveLemmas.{gave_none}
 use Rattle.key_device.specs.Recording.{talk}
 use Rattle.wallet_core.specs.NodeView.{node_seen}
