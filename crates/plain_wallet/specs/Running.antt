@@ -62,8 +62,8 @@ RunsFrom W s came old new (Ok plain) = HasRounds W s came old new plain
 RunsFrom W s came old new (Err wanting) = Follows (run_from W came s.state) old new None
 
 -- what rounds come to, where the list of fragments ends so
-pub record IsRunOf (engagement : List ℕ) (all : List WalletRound) (ending : Ending) (plain : PlainRun) : Type 0 where
-  pub engagement : plain.engagement ≡ engagement
+pub record IsRunOf (announced : List ℕ) (all : List WalletRound) (ending : Ending) (plain : PlainRun) : Type 0 where
+  pub engagement : plain.engagement ≡ announced
   pub replies : plain.replies ≡ replies_of all
   pub released : plain.released ≡ entries_of all
   pub end : Some plain.end ≡ or_by_list (end_of_rounds all) (replies_of all) (closed ending)

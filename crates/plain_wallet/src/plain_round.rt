@@ -1,6 +1,6 @@
 //! What a round came to.
 
-ghost use Rattle.std.specs.Prelude.{◌≡◌, ◌∷◌, IfOk, OnOk};
+ghost use Rattle.std.specs.Prelude.{◌≡◌, ◌∷◌, IfOk};
 ghost use Rattle.round_model.specs.Rounds.{end_of_rounds};
 ghost use Rattle.wallet_reply.specs.RoundView.{end_after};
 
@@ -44,7 +44,7 @@ pub(crate) fn with_round(
     round: PlainRound,
     mut later: Vec<PlainRound>,
 ) -> Result<Vec<PlainRound>, Memory>
-    ensures { IfOk result (λ all. all.items ≡ round ∷ later.entry.items) }
+    ensures { IfOk result (λ all. all.items ≡ round ∷ later.items) }
 {
     later.insert(0, round)?;
     Ok(later)

@@ -16,6 +16,7 @@ use wallet_reply::{AfterRound, Round};
 use wallet_round::{first_round, next_round};
 
 /// The rounds of the messages after a round, up to the first that ends the session: none where that round ended it.
+#[tactic(auto, using(key_device::proofs::GaveLemmas::gave_exits))]
 pub(crate) fn rounds_after<D: KeyDevice>(
     alloc: Global,
     setup: &WalletSetup<'_>,
@@ -57,6 +58,7 @@ pub(crate) fn rounds_after<D: KeyDevice>(
 }
 
 /// The rounds of all messages of a session, up to the first that ends it.
+#[tactic(auto, using(key_device::proofs::GaveLemmas::gave_exits))]
 pub(crate) fn session_rounds<D: KeyDevice>(
     alloc: Global,
     setup: &WalletSetup<'_>,

@@ -8,7 +8,7 @@ ghost use Rattle.wallet_choice.specs.SetupView.{setup_of};
 ghost use Rattle.plain_wallet.specs.Running.{Cause, Runs, RunsFrom};
 
 use crate::PlainRun;
-use crate::message_list::{MessageList, join_messages};
+use crate::message_list::join_messages;
 use crate::plain_run::run_of;
 use crate::rounds::session_rounds;
 use key_device::{KeyDevice, Recorder};
@@ -18,6 +18,7 @@ use wallet_choice::WalletSetup;
 use wallet_start::{StartFault, Started, start};
 
 /// What a session that was started comes to.
+#[tactic(auto, using(key_device::proofs::GaveLemmas::gave_exits))]
 fn run_from<D: KeyDevice>(
     alloc: Global,
     setup: &WalletSetup<'_>,
@@ -29,14 +30,15 @@ fn run_from<D: KeyDevice>(
     ensures gave { Gave D.gives D.unasked D.faults device.old device.new }
 {
     let Started { engagement, state } = started;
-    let MessageList { messages, ending } = join_messages(alloc, fragments)?;
-    let rounds = session_rounds(alloc, setup, state, &messages, device)?;
-    run_of(alloc, engagement, rounds, ending)
+    let list = join_messages(alloc, fragments)?;
+    let rounds = session_rounds(alloc, setup, state, &list.messages, device)?;
+    run_of(alloc, engagement, rounds, list.ending)
 }
 
 /// What a wallet comes to over all the fragments that came, after which the link was closed (ISO/IEC 18013-5, 8.2.1,
 /// 8.3.3.1.1 and 9.1.1). It refuses where the device or the dice fail before the session was started, and for want of memory
 /// at any time.
+#[tactic(auto, using(key_device::proofs::GaveLemmas::gave_exits))]
 pub fn plain_wallet<D: KeyDevice, R: Dice>(
     alloc: Global,
     setup: &WalletSetup<'_>,
