@@ -1,0 +1,13 @@
+//! What may be handed to another thread and shared with it.
+
+use crate::PlainRun;
+
+fn is_send<T: Send>() {}
+
+fn is_sync<T: Sync>() {}
+
+/// What a wallet comes to may be handed to another thread and shared with it.
+pub fn types_are_send_and_sync() {
+    is_send::<PlainRun>();
+    is_sync::<PlainRun>();
+}
