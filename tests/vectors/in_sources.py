@@ -1,14 +1,15 @@
 """Whether a printed table stands in the sources as it is printed, whatever its layout there."""
 
 import pathlib
+import re
 import sys
 
 CRATES = pathlib.Path(__file__).resolve().parent.parent.parent / "crates"
 
 
 def squeezed(text):
-    """The text without white space and without the signs that continue a line."""
-    return "".join(text.replace("\\\n", "").split())
+    """The text without white space, without the signs that continue a line, and without commas that end a list."""
+    return re.sub(r",(?=[\])}]|$)", "", "".join(text.replace("\\\n", "").split()))
 
 
 def status_of_check(script, texts):

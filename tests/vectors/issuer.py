@@ -66,8 +66,8 @@ def fields(*entries):
     return cbor.table([(cbor.text(key), value) for key, value in entries])
 
 
-def copy(spec, holder, key, salts, issuer, signer_key, chain):
-    """A copy by the holder's key and a salt for each element, signed by a key of the issuer's device."""
+def signed_items(spec, holder, key, salts, issuer, signer_key, chain):
+    """The items for the holder's key, each with its namespace and a salt, and what a key of the issuer's device signs of them."""
     items, numbers = [], {}
     for (space, element, value), salt in zip(spec.elements, salts, strict=True):
         number = numbers.get(space, 0)
@@ -93,9 +93,18 @@ def copy(spec, holder, key, salts, issuer, signer_key, chain):
     auth = cbor.array([
         cbor.blob(protected), cbor.table([(cbor.uint(33), cbor.blob(chain))]), cbor.blob(payload),
         cbor.blob(issuer.signature(signer_key, message))])
-    spaces = cbor.table([
-        (cbor.text(space), cbor.array(raws)) for space, raws in grouped((space, raw) for space, _, raw in items)])
+    return [(space, raw) for space, _, raw in items], auth
+
+
+def stored_copy(key, items, auth):
+    """A copy as it is stored: items with their namespaces, and the issuer's signature."""
+    spaces = cbor.table([(cbor.text(space), cbor.array(raws)) for space, raws in grouped(items)])
     return fields(("key", cbor.uint(key)), ("used", cbor.boolean(False)), ("issuerAuth", auth), ("nameSpaces", spaces))
+
+
+def copy(spec, holder, key, salts, issuer, signer_key, chain):
+    """A copy by the holder's key and a salt for each element, signed by a key of the issuer's device."""
+    return stored_copy(key, *signed_items(spec, holder, key, salts, issuer, signer_key, chain))
 
 
 def package(spec, copies):

@@ -1,0 +1,16 @@
+//! Sessions of the wallet's node (`wallet_core`), as tests alone, by its public calls. Their bytes are those that another
+//! implementation finds.
+#![tactic(auto)]
+
+#[cfg(test)]
+mod answers;
+#[cfg(test)]
+mod cases;
+#[cfg(test)]
+mod endings;
+#[cfg(test)]
+mod large;
+#[cfg(test)]
+mod stores;
+#[cfg(test)]
+mod texts;
