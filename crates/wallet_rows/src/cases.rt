@@ -78,15 +78,13 @@ pub(crate) fn device_of(alloc: Global, lines: &[&str]) -> Option<Recorder<Replay
     Some(Recorder::new(alloc, device))
 }
 
-/// A wallet that was started.
-pub(crate) fn started<'a, D: KeyDevice>(
-    alloc: Global,
+/// What a wallet is made with.
+pub(crate) fn setup_of<'a>(
     store: &'a Store<'a>,
     rules: &'a Rules,
     readers: &'a Roots,
-    device: &mut Recorder<D>,
-) -> Option<WalletNode<'a>> {
-    let setup = WalletSetup {
+) -> WalletSetup<'a> {
+    WalletSetup {
         store,
         choice: &[0, 0],
         rules,
@@ -95,9 +93,26 @@ pub(crate) fn started<'a, D: KeyDevice>(
         moment: MOMENT,
         nfc: false,
         request: None,
-    };
-    let mut dice = Dealt::new(alloc, CountDice::new(WORD));
-    WalletNode::new(alloc, setup, &mut dice, device).ok()
+    }
+}
+
+/// Dice whose first word is the same each time.
+pub(crate) fn dice_of(alloc: Global) -> Dealt<CountDice> {
+    Dealt::new(alloc, CountDice::new(WORD))
+}
+
+/// A wallet that was started.
+pub(crate) fn started<'a, D: KeyDevice>(
+    alloc: Global,
+    store: &'a Store<'a>,
+    rules: &'a Rules,
+    readers: &'a Roots,
+    device: &mut Recorder<D>,
+) -> Option<WalletNode<'a>> {
+    let mut setup = setup_of(store, rules, readers);
+    setup.nfc = false;
+    setup.request = None;
+    WalletNode::new(alloc, setup, &mut dice_of(alloc), device).ok()
 }
 
 /// Whether bytes are those of digits.
@@ -116,7 +131,8 @@ pub(crate) fn is_announced(alloc: Global, node: &WalletNode<'_>) -> bool {
         && node.size() == SIZE
 }
 
-fn fragment_of(alloc: Global, comes: &Comes) -> Option<Fragment> {
+/// A fragment of what comes.
+pub(crate) fn fragment_of(alloc: Global, comes: &Comes) -> Option<Fragment> {
     match comes {
         Comes::Data(digits) => {
             let bytes = hex::decode(alloc, digits.as_bytes()).ok()?;

@@ -11,6 +11,16 @@ mod endings;
 #[cfg(test)]
 mod large;
 #[cfg(test)]
+mod licences;
+#[cfg(test)]
+mod limits;
+#[cfg(test)]
+mod lists;
+#[cfg(test)]
+mod starts;
+#[cfg(test)]
 mod stores;
 #[cfg(test)]
 mod texts;
+#[cfg(test)]
+mod thousand;
