@@ -3,7 +3,8 @@
 ghost use Rattle.std.specs.Prelude.{◌≡◌, IfOk, OnOk, map, option_copied, option_map};
 ghost use Rattle.consent.specs.Wish.{wanted};
 ghost use Rattle.doc_request.specs.Views.{document_seen, element_seen};
-ghost use Rattle.doc_store.specs.StoredCopy.{copy_of};
+ghost use Rattle.doc_store.specs.Store.{Copy};
+ghost use Rattle.held_items.specs.Found.{AreItemsOf};
 ghost use Rattle.wallet_model.specs.Released.{choice, choice_of, item_for, wish_for};
 ghost use Rattle.wallet_choice.specs.ChoiceView.{choice_seen, shown_seen};
 ghost use Rattle.wallet_choice.specs.Progress.{answered_progress, progress_seen, with_answer};
@@ -15,7 +16,7 @@ use crate::shown_copy::{ShownCopy, shown_copy};
 use consent::{Rules, Wish};
 use doc_request::{DocAsk, Element};
 use doc_response::AnsweredDocument;
-use doc_store::StoredCopy;
+use held_items::HeldItems;
 use mdoc_outside::{Memory, Octets};
 use std::alloc::Global;
 use wallet_model::ReleasedAt;
@@ -43,13 +44,13 @@ fn wish_of<'a>(doc_type: &'a str, element: &Element<'a>) -> Wish<'a>
 fn item_for<'a>(
     rules: &Rules,
     reader: Option<&str>,
-    copy: &StoredCopy<'a>,
+    held: &HeldItems<'a>,
     wish: &Wish<'_>,
 ) -> Option<&'a [u8]>
-    ensures { option_copied result ≡ item_for rules.now (option_copied reader.entry) (copy_of copy.now) (wanted wish.now) }
+    ensures { (copy : Copy) → AreItemsOf held.now copy → option_copied result ≡ item_for rules.now (option_copied reader.entry) copy (wanted wish.now) }
 {
     if rules.allows(wish, reader) {
-        copy.item(wish.ns, wish.name)
+        held.item(wish.ns, wish.name)
     } else {
         None
     }
@@ -98,13 +99,14 @@ fn answer_wishes<'a>(
     ensures { IfOk result (λ p. progress_seen p ≡ answered_progress rules.now (option_copied reader.entry) (shown_seen shown.now) (document_seen asked.now)) }
 {
     let doc_type = asked.doc_type();
+    let held = HeldItems::of(alloc, &shown.copy)?;
     let mut progress = Progress {
         answered: AnsweredDocument::new(alloc, doc_type),
         places: Vec::new(alloc),
     };
     for element in asked.elements() {
         let wish = wish_of(doc_type, &element);
-        let found = item_for(rules, reader, &shown.copy, &wish);
+        let found = item_for(rules, reader, &held, &wish);
         progress.add(alloc, shown.document, &wish, found)?;
     }
     Ok(progress)

@@ -28,7 +28,7 @@ loop-element-preserved c = (
       (wanted c.wish_of-wish.result) (option_copied c.item_for-found.result)
       c.in-Some.ensures.steps
       (c.wish_of-wish.ensures ∙ ap (λ (text : List ℕ). wish_for text (element_seen c.in-Some.element)) c.doc_type-doc_type.ensures)
-      c.item_for-found.ensures
+      (c.item_for-found.ensures (shown_seen c.args.shown.now).copy c.in_ok-held.ensures)
       (c.in_ok-add.ensures)
       c.loop-element.invariant.2,
 )
