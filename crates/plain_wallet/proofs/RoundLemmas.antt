@@ -18,26 +18,12 @@ use Rattle.wallet_reply.specs.RoundView.{GoesOn, end_after, round_seen}
 use Rattle.wallet_reply.specs.declared.after_round.AfterRound.{AfterRound}
 use Rattle.wallet_reply.specs.declared.after_round.AfterRound.TheVariants.{Open, Ended}
 use Rattle.wallet_reply.specs.declared.round.Round.{Round}
-use Rattle.wallet_round.specs.Rounds.{First, GoesOnFrom, IsFirstRound, IsNextRound, IsWanting, first_plan, next_plan}
+use Rattle.wallet_round.specs.Rounds.{First, GoesOnFrom, IsFirstRound, IsNextRound, IsWanting, IsWithin, first_plan, next_plan}
 use Rattle.wallet_round.specs.declared.unanswered.Unanswered.{Unanswered}
 use Rattle.wallet_round.specs.declared.unanswered.Unanswered.TheVariants.{Back, Spent}
-use Rattle.plain_wallet.specs.Rounds.{AreRounds, AreRoundsAfter, FollowAfter, IsWithin}
+use Rattle.plain_wallet.specs.Rounds.{AreRounds, AreRoundsAfter, FollowAfter}
 
 -- ---- the session after a round
-
-pub within_first : (opened : WalletOpened) (after : AfterRound) → GoesOnFrom opened after → IsWithin after
-within_first (Ok first) (Open next) goes =
-    let place : next.place ≡ 2 = ap (λ (s : WalletSession). s.place) goes in
-    (omega (arith, place), omega (arith, place))
-within_first (Err ending) (Open next) goes = absurd goes
-within_first (Ok first) (Ended end) goes = tt
-within_first (Err ending) (Ended end) goes = tt
-
-pub within_next : (session : WalletSession) (after : AfterRound) → 1 < session.place → GoesOn session after → IsWithin after
-within_next session (Open next) later goes =
-    let place : next.place ≡ session.place + 1 = ap (λ (s : WalletSession). s.place) goes.0 in
-    (omega (arith, place, later), goes.1)
-within_next session (Ended end) later goes = tt
 
 -- where a session goes on after a round, it is that of the first message at this place
 abbrev Leads : WalletOpened → ℕ → AfterRound → Type 0

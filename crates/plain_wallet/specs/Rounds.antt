@@ -1,5 +1,5 @@
 -- What the rounds of a session's messages come to.
-use Rattle.std.specs.Prelude.{◌≡◌, ◌<◌, ◌≤◌, ◌^◌, ℕ, List, [], length, Option, Some, None, Result, Ok, Err}
+use Rattle.std.specs.Prelude.{◌≡◌, ◌≤◌, ◌^◌, ℕ, List, [], length, Option, Some, None, Result, Ok, Err}
 use Rattle.std.specs.Global.{Vec}
 use Rattle.key_device.specs.Plan.{Done, Follows}
 use Rattle.key_device.specs.declared.exchange.Exchange.{Exchange}
@@ -15,11 +15,6 @@ use Rattle.wallet_reply.specs.declared.after_round.AfterRound.TheVariants.{Open,
 -- a message is no longer than one that a session opens
 abbrev pub IsShort : List ℕ → Type 0
 IsShort m = length m ≤ 2 ^ 24
-
--- a session that goes on waits for a later message, one of the thousand
-abbrev pub IsWithin : AfterRound → Type 0
-IsWithin (Open session) = (1 < session.place) × (session.place ≤ 1000)
-IsWithin (Ended end) = Unit {0}
 
 -- want of memory is no outcome
 abbrev pub rounds_came : Result (Vec WalletRound) Memory → Option (List WalletRound)

@@ -2,13 +2,11 @@
 
 ghost use Rattle.std.specs.Prelude.{◌≡◌, ◌∷◌, IfOk};
 ghost use Rattle.round_model.specs.Rounds.{end_of_rounds};
-ghost use Rattle.wallet_reply.specs.RoundView.{end_after};
 
 use mdoc_outside::{Memory, Octets};
 use session_seal::WalletEnd;
 use std::marker::Model;
 use wallet_model::ReleasedAt;
-use wallet_reply::AfterRound;
 
 /// What a round came to.
 #[derive(Drop)]
@@ -27,16 +25,6 @@ impl Model for PlainRound {
     ghost Value = { WalletRound };
 
     ghost view = { λ r. record { reply = r.reply; entries = r.places.items; ended = r.ended } };
-}
-
-/// How a session ended in a round, if it did.
-pub(crate) fn end_after(after: &AfterRound) -> Option<WalletEnd>
-    ensures { result ≡ end_after after.now }
-{
-    match after {
-        AfterRound::Open(_) => None,
-        AfterRound::Ended(end) => Some(*end),
-    }
 }
 
 /// A round, and then those after it.

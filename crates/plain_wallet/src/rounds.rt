@@ -4,9 +4,10 @@ ghost use Rattle.std.specs.List.{All};
 ghost use Rattle.key_device.specs.Gave.{Gave};
 ghost use Rattle.key_device.specs.Recording.{talk};
 ghost use Rattle.wallet_choice.specs.SetupView.{setup_of};
-ghost use Rattle.plain_wallet.specs.Rounds.{AreRounds, AreRoundsAfter, IsShort, IsWithin};
+ghost use Rattle.wallet_round.specs.Rounds.{IsWithin};
+ghost use Rattle.plain_wallet.specs.Rounds.{AreRounds, AreRoundsAfter, IsShort};
 
-use crate::plain_round::{PlainRound, end_after, with_round};
+use crate::plain_round::{PlainRound, with_round};
 use key_device::{KeyDevice, Recorder};
 use mdoc_outside::{Memory, Octets};
 use session_seal::WalletEngaged;
@@ -42,7 +43,7 @@ pub(crate) fn rounds_after<D: KeyDevice>(
                 places,
                 after,
             } = round;
-            let ended = end_after(&after);
+            let ended = after.end();
             let rounds = rounds_after(alloc, setup, after, later, device)?;
             with_round(
                 PlainRound {
@@ -80,7 +81,7 @@ pub(crate) fn session_rounds<D: KeyDevice>(
                 places,
                 after,
             } = round;
-            let ended = end_after(&after);
+            let ended = after.end();
             let rounds = rounds_after(alloc, setup, after, later, device)?;
             with_round(
                 PlainRound {

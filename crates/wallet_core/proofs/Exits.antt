@@ -1,20 +1,17 @@
 -- What a node makes of a message or of a further fragment, at each exit.
-use Rattle.std.proofs.Common.{◌≡◌, inl, inr, ◌<◌, ◌≤◌, ◌+◌, ℕ, List, [], Option, Some, None, Result, Ok, Err, refl, sym, ◌∙◌, ap, subst, arith}
+use Rattle.std.proofs.Common.{◌≡◌, inl, inr, ◌<◌, ◌≤◌, ℕ, List, [], Option, Some, None, Result, Ok, Err, refl, sym, ◌∙◌, ap, subst, arith}
 use Rattle.std.specs.Prelude.{IfOk, OnErr}
 use Rattle.ble_fragments.specs.Joins.{Joined}
 use Rattle.key_device.specs.declared.exchange.Exchange.{Exchange}
 use Rattle.mdoc_outside.specs.declared.fragment.Fragment.{Fragment}
 use Rattle.mdoc_outside.specs.declared.memory.Memory.{Memory}
-use Rattle.session_seal.specs.Wallet.{WalletOpened, WalletSession, WalletStart}
+use Rattle.session_seal.specs.Wallet.{WalletSession, WalletStart}
 use Rattle.session_seal.specs.declared.wallet_end.WalletEnd.{WalletEnd}
 use Rattle.wallet_model.specs.Setup.{Setup}
 use Rattle.wallet_model.specs.Stands as states
 use Rattle.wallet_model.specs.Stands.{Node, NodeState, StandsFor}
-use Rattle.wallet_reply.specs.RoundView.{GoesOn}
-use Rattle.wallet_reply.specs.declared.after_round.AfterRound.{AfterRound}
-use Rattle.wallet_reply.specs.declared.after_round.AfterRound.TheVariants as rounds
 use Rattle.wallet_reply.specs.declared.round.Round.{Round}
-use Rattle.wallet_round.specs.Rounds.{GoesOnFrom, IsFirstRound, IsNextRound}
+use Rattle.wallet_round.specs.Rounds.{IsFirstRound, IsNextRound}
 use Rattle.wallet_round.specs.declared.unanswered.Unanswered.{Unanswered}
 use Rattle.wallet_round.specs.declared.unanswered.Unanswered.TheVariants.{Back, Spent}
 use Rattle.wallet_steps.proofs.Taken.{is_after_end}
@@ -23,25 +20,11 @@ use Rattle.wallet_core.proofs.Takes.{joined_in}
 use Rattle.wallet_core.proofs.Unasked.{released_asked}
 use Rattle.wallet_core.specs.Answering.{Answers, IsLost, IsPlaced, IsRoundOf, Settles, first_left, next_left}
 use Rattle.wallet_core.specs.NodeView.{node_in}
-use Rattle.wallet_core.specs.StateView.{IsWithin, over_end}
+use Rattle.wallet_core.specs.StateView.{over_end}
 use Rattle.wallet_core.specs.Taking.{RestsAfterEnd, Takes}
 use Rattle.wallet_core.specs.declared.reply.Reply.{Reply}
 
 -- ---- where a session is after a round
-
-pub within_first : (opened : WalletOpened) (after : AfterRound) → GoesOnFrom opened after → IsWithin after
-within_first (Ok first) (rounds.Open next) goes =
-    let place : next.place ≡ 2 = ap (λ (s : WalletSession). s.place) goes in
-    (omega (arith, place), omega (arith, place))
-within_first (Err ending) (rounds.Open next) goes = absurd goes
-within_first (Ok first) (rounds.Ended end) goes = tt
-within_first (Err ending) (rounds.Ended end) goes = tt
-
-pub within_next : (session : WalletSession) (after : AfterRound) → 1 < session.place → GoesOn session after → IsWithin after
-within_next session (rounds.Open next) later goes =
-    let place : next.place ≡ session.place + 1 = ap (λ (s : WalletSession). s.place) goes.0 in
-    (omega (arith, place, later), goes.1)
-within_next session (rounds.Ended end) later goes = tt
 
 pub placed : (W : Setup) (session : WalletSession) (m : List ℕ) (old new : List Exchange) (wanting : Unanswered WalletSession)
     → 1 < session.place → session.place ≤ 1000 → IsNextRound W session m old new (Err wanting) → IsPlaced wanting

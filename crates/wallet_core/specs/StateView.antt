@@ -1,5 +1,5 @@
 -- What contracts see of where a session is.
-use Rattle.std.specs.Prelude.{◌<◌, ◌≤◌, Option, Some, None}
+use Rattle.std.specs.Prelude.{Option, Some, None}
 use Rattle.session_seal.specs.declared.wallet_end.WalletEnd.{WalletEnd}
 use Rattle.session_seal.specs.declared.wallet_end.WalletEnd.TheVariants as ends
 use Rattle.wallet_model.specs.Stands as states
@@ -26,8 +26,3 @@ over_end states.Spent = Some ends.Spent
 abbrev pub after_state : AfterRound → NodeState
 after_state (rounds.Open session) = states.Open session
 after_state (rounds.Ended end) = states.Ended end
-
--- a session that goes on waits for a later message, one of the thousand
-abbrev pub IsWithin : AfterRound → Type 0
-IsWithin (rounds.Open session) = (1 < session.place) × (session.place ≤ 1000)
-IsWithin (rounds.Ended end) = Unit {0}

@@ -9,16 +9,16 @@ ghost use Rattle.mdoc_outside.specs.GaveWords.{GaveWords};
 ghost use Rattle.wallet_choice.specs.SetupView.{setup_of};
 ghost use Rattle.wallet_model.specs.Stands as states;
 ghost use Rattle.wallet_start.specs.Ends.{Cause};
+ghost use Rattle.wallet_round.specs.Rounds.{IsWithin};
 ghost use Rattle.wallet_steps.specs.Taking.{IsLive};
 ghost use Rattle.wallet_core.specs.Answering.{Answers, IsPlaced, Settles, first_left, next_left};
 ghost use Rattle.message_joining.specs.Hearing.{is_last};
 ghost use Rattle.wallet_core.specs.NodeView.{node_in, node_seen};
 ghost use Rattle.wallet_core.specs.Starting.{IsNew, Starts};
-ghost use Rattle.wallet_core.specs.StateView.{IsWithin};
 ghost use Rattle.wallet_core.specs.Taking.{Closes, IsSameSetup, Listens, RestsAfterEnd, Takes, closed_end, closed_state};
 
 use crate::room::{find_room, keep_places};
-use crate::state::{State, end_after};
+use crate::state::State;
 use crate::waiting::Waiting;
 use crate::{Announced, Reply};
 use ble_fragments::Ending;
@@ -294,7 +294,7 @@ impl<'a> WalletNode<'a> {
             after,
         } = round;
         keep_places(&mut self.released, places)?;
-        let ended = end_after(&after);
+        let ended = after.end();
         self.state = State::after(after);
         self.joining = joined;
         Ok(Reply {

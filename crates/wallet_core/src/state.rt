@@ -2,9 +2,9 @@
 
 ghost use Rattle.std.specs.Prelude.{◌≡◌};
 ghost use Rattle.ble_fragments.specs.declared.ending.Ending.TheVariants.{Bad, Peer};
-ghost use Rattle.wallet_reply.specs.RoundView.{end_after};
+ghost use Rattle.wallet_round.specs.Rounds.{IsWithin};
 ghost use Rattle.wallet_steps.specs.Taking.{list_end};
-ghost use Rattle.wallet_core.specs.StateView.{IsWithin, after_state, over_end, state_seen};
+ghost use Rattle.wallet_core.specs.StateView.{after_state, over_end, state_seen};
 
 use crate::waiting::Waiting;
 use ble_fragments::{Ending, JoinFault};
@@ -22,16 +22,6 @@ pub(crate) enum State {
     Ended(WalletEnd),
     /// Lost: memory was wanting after a question.
     Spent,
-}
-
-/// How a session ended in a round, if it did.
-pub(crate) fn end_after(after: &AfterRound) -> Option<WalletEnd>
-    ensures { result ≡ end_after after.now }
-{
-    match after {
-        AfterRound::Open(_) => None,
-        AfterRound::Ended(end) => Some(*end),
-    }
 }
 
 impl State {

@@ -2,3 +2,4 @@ pub mod Opened
 pub mod Talks
 pub mod FirstRound
 pub mod NextRound
+pub mod Within

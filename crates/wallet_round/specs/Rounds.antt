@@ -1,5 +1,5 @@
 -- What the round of a message comes to.
-use Rattle.std.specs.Prelude.{◌≡◌, ℕ, List, Some, None, Result, Ok, Err}
+use Rattle.std.specs.Prelude.{◌≡◌, ◌<◌, ◌≤◌, ℕ, List, Some, None, Result, Ok, Err}
 use Rattle.key_device.specs.Plan.{Follows, Plan, Done, bind}
 use Rattle.key_device.specs.declared.exchange.Exchange.{Exchange}
 use Rattle.session_seal.specs.Wallet.{WalletOpened, WalletSession, WalletStart, wallet_establishes, wallet_opens}
@@ -25,6 +25,11 @@ abbrev pub GoesOnFrom : WalletOpened → AfterRound → Type 0
 GoesOnFrom (Ok first) (Open next) = next ≡ session_at first.0 2
 GoesOnFrom (Err ending) (Open next) = ⊥
 GoesOnFrom opened (Ended end) = Unit {0}
+
+-- a session that goes on waits for a later message, one of the thousand
+abbrev pub IsWithin : AfterRound → Type 0
+IsWithin (Open session) = (1 < session.place) × (session.place ≤ 1000)
+IsWithin (Ended end) = Unit {0}
 
 pub record First (W : Setup) (start : WalletStart) (message : List ℕ) (old new : List Exchange) (r : Round) : Type 0 where
   pub opened : WalletOpened

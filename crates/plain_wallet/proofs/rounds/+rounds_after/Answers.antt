@@ -21,7 +21,7 @@ returns-in-Ok-clause-rounds g t c =
     at_front (setup_of c.args.setup.now) c.args.after c.in-Open.session c.args.messages.now c.message-item.result (talk c.args.device.now) (talk c.rounds_after.new.device) c.with_round.result
     c.in-Open.is c.in-len1-up.len_at_least (c.message-item.is ∙ get_or_default c.args.messages.now 0 _ _ some)
     (message_before (setup_of c.args.setup.now) c.in-Open.session c.message-item.result (later_than_first c.args.messages.now) c.in-Ok.round c.in_ok-rounds-in-Ok.rounds.items c.with_round.result (is_later c.args.after c.in-Open.session c.in-Open.is c.requires.within)
-    (rw c.as_slice.ensures at c.in-Ok.ensures.round) c.in_ok-rounds-in-Ok.ensures.rounds (rw c.end_after-ended.ensures at c.with_round.ensures))
+    (rw c.as_slice.ensures at c.in-Ok.ensures.round) c.in_ok-rounds-in-Ok.ensures.rounds (rw c.end-ended.ensures at c.with_round.ensures))
 
 pub returns-clause-rounds : goal.returns-clause-rounds
 returns-clause-rounds g t c =

@@ -1,7 +1,8 @@
 use Rattle.key_device.specs.Recording.{talk}
 use Rattle.wallet_model.specs.Stands as states
 use Rattle.wallet_core.specs.NodeView.{node_seen}
-use Rattle.wallet_core.proofs.Exits.{first_lost, settled, within_first}
+use Rattle.wallet_round.proofs.Within.{within_first}
+use Rattle.wallet_core.proofs.Exits.{first_lost, settled}
 use Rattle.wallet_core.proofs.node.WalletNode.answer_first.Goals as goal
 
 pub settle-requires : goal.settle-requires

@@ -2,7 +2,8 @@ use Rattle.key_device.specs.Recording.{talk}
 use Rattle.wallet_choice.specs.SetupView.{setup_of}
 use Rattle.wallet_model.specs.Stands as states
 use Rattle.wallet_core.specs.NodeView.{node_seen}
-use Rattle.wallet_core.proofs.Exits.{next_lost, placed, settled, within_next}
+use Rattle.wallet_round.proofs.Within.{within_next}
+use Rattle.wallet_core.proofs.Exits.{next_lost, placed, settled}
 use Rattle.wallet_core.proofs.node.WalletNode.answer_next.Goals as goal
 
 pub settle-requires : goal.settle-requires
