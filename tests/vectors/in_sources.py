@@ -1,4 +1,4 @@
-"""Whether a printed table stands in the sources as it is printed, whatever its layout there."""
+"""Whether a printed table stands in the sources as it is printed, whatever its layout there, or in files line by line."""
 
 import pathlib
 import re
@@ -22,3 +22,23 @@ def status_of_check(script, texts):
             return 0
     print(f"{script}: no source file holds what it prints", file=sys.stderr)
     return 1
+
+
+def status_of_lines(script, files):
+    """0 where each of these files of a crate has these lines one after the other, else 1."""
+    status = 0
+    for name, lines in files.items():
+        held = "\n" + (CRATES / name).read_text()
+        if "".join(f"\n{line}" for line in lines) + "\n" in held:
+            print(f"{script}: what it prints stands in {name}")
+        else:
+            print(f"{script}: {name} doesn't hold what it prints", file=sys.stderr)
+            status = 1
+    return status
+
+
+def case_files(program, word, cases):
+    """What a program reads of cases, each with what is wanted and what is given, and what it has to print."""
+    return {
+        f"{program}/stdin": [f"{word} {wanted} | {given}" for wanted, given in cases],
+        f"{program}/stdout": [f"{word} {wanted} | {wanted}" for wanted, _ in cases]}

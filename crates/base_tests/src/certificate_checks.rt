@@ -1,7 +1,6 @@
-//! One certificate with damages of one byte.
+//! A certificate that OpenSSL wrote.
 
-use cert_view::{Cert, CertCheck, CertFault};
-use std::alloc::Global;
+use cert_view::Cert;
 use std::test::*;
 
 /// A certificate that OpenSSL wrote, in hexadecimal digits: `openssl req -x509 -new -key key.pem
@@ -44,46 +43,4 @@ fn reads_the_fields(rt: HostRuntime) -> Result<(), Fail> {
     let bytes = hex::decode(rt.alloc(), SIGNER).ok().ok_or("digits")?;
     assert!(rt; is_read(&bytes));
     Ok(())
-}
-
-/// A place of a byte, another byte there, and the fault of the certificate with that byte.
-const FAULTS: [(usize, u8, CertCheck, usize); 17] = [
-    (6, 0x02, CertCheck::Der, 4),
-    (11, 0x02, CertCheck::Der, 10),
-    (0, 0x31, CertCheck::Shape, 0),
-    (8, 0xa1, CertCheck::Shape, 8),
-    (49, 0x16, CertCheck::Shape, 49),
-    (12, 0x01, CertCheck::VersionNot3, 10),
-    (27, 0x03, CertCheck::Algorithm, 16),
-    (307, 0x03, CertCheck::Algorithm, 296),
-    (53, b'2', CertCheck::Time, 49),
-    (80, b'z', CertCheck::Time, 64),
-    (112, 0x02, CertCheck::KeyKind, 100),
-    (126, 0x02, CertCheck::KeyKind, 100),
-    (315, 0xac, CertCheck::Signature, 308),
-    (314, 0x21, CertCheck::Signature, 308),
-    (287, 0x05, CertCheck::Extension, 276),
-    (265, 0x25, CertCheck::Extension, 259),
-    (232, 0x25, CertCheck::Extension, 226),
-];
-
-/// The fault of the certificate with that byte at that place.
-fn fault_with(alloc: Global, place: usize, byte: u8) -> Option<CertFault> {
-    let mut bytes = hex::decode(alloc, SIGNER).ok()?;
-    *bytes.get_mut(place)? = byte;
-    Cert::read(&bytes).err()
-}
-
-#[test]
-fn tells_the_first_check(rt: HostRuntime) {
-    for (place, byte, check, at) in &FAULTS {
-        let fault = CertFault {
-            check: *check,
-            at: *at,
-        };
-        assert!(rt;
-            fault_with(rt.alloc(), *place, *byte) == Some(fault),
-            "{place}"
-        );
-    }
 }

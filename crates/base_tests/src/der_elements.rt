@@ -4,53 +4,9 @@ use der_view::{Der, DerFault, DerKind};
 use std::alloc::Global;
 use std::test::*;
 
-/// Bytes that are no element, with the first fault and its place.
-const REFUSED: [(&[u8], DerKind, usize); 33] = [
-    (b"", DerKind::Short, 0),
-    (b"\x30", DerKind::Short, 0),
-    (b"\x30\x01", DerKind::Short, 0),
-    (b"\x30\x04\x02\x01", DerKind::Short, 0),
-    (b"\x04\x81", DerKind::Short, 0),
-    (b"\x04\x81\x80", DerKind::Short, 0),
-    (b"\x04\x82", DerKind::Short, 0),
-    (b"\x04\x82\x01", DerKind::Short, 0),
-    (b"\x04\x82\x01\x00", DerKind::Short, 0),
-    (b"\x04\x83", DerKind::Short, 0),
-    (b"\x04\x83\x01\x00", DerKind::Short, 0),
-    (b"\x04\x83\x01\x00\x00", DerKind::Short, 0),
-    (b"\x04\x84", DerKind::Short, 0),
-    (b"\x04\x84\x01\x00\x00", DerKind::Short, 0),
-    (b"\x04\x84\xff\xff\xff\xff", DerKind::Short, 0),
-    (b"\x1f", DerKind::HighTag, 0),
-    (b"\x1f\x81\x00\x00", DerKind::HighTag, 0),
-    (b"\xbf\x1f\x00", DerKind::HighTag, 0),
-    (b"\xff\x80", DerKind::HighTag, 0),
-    (b"\x30\x80\x00\x00", DerKind::Length, 0),
-    (b"\x30\x80", DerKind::Length, 0),
-    (b"\x04\x81\x00", DerKind::Length, 0),
-    (b"\x04\x81\x7f", DerKind::Length, 0),
-    (b"\x04\x82\x00", DerKind::Length, 0),
-    (b"\x04\x82\x00\xff", DerKind::Length, 0),
-    (b"\x04\x83\x00\xff\xff", DerKind::Length, 0),
-    (b"\x04\x84\x00\xff\xff\xff", DerKind::Length, 0),
-    (b"\x04\x85", DerKind::Length, 0),
-    (b"\x04\x85\x01\x00\x00\x00\x00", DerKind::Length, 0),
-    (b"\x04\xff", DerKind::Length, 0),
-    (b"\x05\x00\x00", DerKind::Trailing, 2),
-    (b"\x02\x01\x05\x1f", DerKind::Trailing, 3),
-    (b"\x30\x03\x02\x01\x05\x30\x80", DerKind::Trailing, 5),
-];
-
 /// Whether bytes are no element, with that first fault.
 fn is_refused(bytes: &[u8], kind: DerKind, at: usize) -> bool {
     Der::read(bytes).err() == Some(DerFault { kind, at })
-}
-
-#[test]
-fn refuses_what_is_no_element(rt: HostRuntime) {
-    for (bytes, kind, at) in &REFUSED {
-        assert!(rt; is_refused(bytes, *kind, *at), "{bytes:?}");
-    }
 }
 
 /// The head of an octet string of so many bytes, as OpenSSL writes it.

@@ -1,6 +1,6 @@
 //! Roots files: a name and the digits of a certificate a line.
 
-use crate::certificates::{root_digits, signer_digits};
+use crate::certificates::{ROOT, SIGNER};
 use cert_view::{Roots, RootsFault};
 use std::alloc::Global;
 use std::test::*;
@@ -56,7 +56,7 @@ const FILES: [(&[u8], &[u8], Option<RootsFault>); 19] = [
 /// The fault of a file in which the root's digits stand between these.
 fn fault_around(alloc: Global, front: &[u8], behind: &[u8]) -> Result<Option<RootsFault>, Fail> {
     let mut text = front.to_vec(alloc)?;
-    text.extend_from_slice(root_digits().as_bytes())?;
+    text.extend_from_slice(ROOT.as_bytes())?;
     text.extend_from_slice(behind)?;
     Ok(Roots::read(alloc, &text).err())
 }
@@ -90,8 +90,8 @@ fn root_of(roots: &Roots, number: usize) -> Option<(&str, bool)> {
 /// Names may repeat, and digits are of either case.
 #[test]
 fn roots_stand_in_the_order_of_the_file(rt: HostRuntime) -> Result<(), Fail> {
-    let signer = signer_digits().to_ascii_uppercase(rt.alloc())?;
-    let text = format!(in rt.alloc(); "root first {signer}\nroot first {}", root_digits())?;
+    let signer = SIGNER.to_ascii_uppercase(rt.alloc())?;
+    let text = format!(in rt.alloc(); "root first {signer}\nroot first {ROOT}")?;
     let roots = Roots::read(rt.alloc(), text.as_bytes())?;
     assert!(rt; root_of(&roots, 0) == Some(("first", true)));
     assert!(rt; root_of(&roots, 1) == Some(("first", false)));
@@ -107,7 +107,7 @@ fn count_after(
     let mut text = Vec::new(alloc);
     for _ in 0..lines {
         text.extend_from_slice(b"root issuer ")?;
-        text.extend_from_slice(root_digits().as_bytes())?;
+        text.extend_from_slice(ROOT.as_bytes())?;
         text.push(b'\n')?;
     }
     text.extend_from_slice(rest)?;
@@ -138,8 +138,8 @@ fn sequence_head(alloc: Global, length: u16) -> Result<String, Fail> {
 /// The root's line with an issuer that is so long that the certificate has that many bytes: what is
 /// inside a name is not read.
 fn line_of_size(alloc: Global, size: u16) -> Result<String, Fail> {
-    let front = root_digits().get(14..54).ok_or("up to the issuer")?;
-    let behind = root_digits().get(88..).ok_or("from after the issuer on")?;
+    let front = ROOT.get(14..54).ok_or("up to the issuer")?;
+    let behind = ROOT.get(88..).ok_or("from after the issuer on")?;
     let whole = sequence_head(alloc, size.saturating_sub(4))?;
     let signed = sequence_head(alloc, size.saturating_sub(95))?;
     let issuer = sequence_head(alloc, size.saturating_sub(259))?;

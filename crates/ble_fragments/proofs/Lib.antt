@@ -4,3 +4,4 @@ pub mod Divisions
 pub mod Feeding
 pub mod Limits
 pub mod OneMore
+mod ArrivalLemmas

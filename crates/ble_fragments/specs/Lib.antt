@@ -6,3 +6,4 @@ pub mod Next
 pub mod Part
 pub mod Parts
 pub mod Whole
+pub mod Arrivals

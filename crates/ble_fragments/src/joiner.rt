@@ -9,16 +9,10 @@ ghost use Rattle.ble_fragments.specs.Parts.{part};
 
 use crate::part::{Part, part_of};
 use crate::{Ending, Fed, JoinFault};
-use mdoc_outside::{Fragment, Octets};
+use mdoc_outside::{Fragment, MOST_FRAGMENTS, MOST_MESSAGE_BYTES, Octets};
 use std::alloc::{AllocError, Global};
 use std::marker::Model;
 use std::mem;
-
-/// The most fragments of one message.
-const MOST_FRAGMENTS: u32 = 65_536;
-
-/// The most bytes of one message, the leading bytes of its fragments not counted.
-const MOST_BYTES: usize = 1_048_576;
 
 /// Joins fragments, one by one, to messages (ISO/IEC 18013-5, 8.3.3.1.1).
 #[derive(Drop)]
@@ -103,7 +97,8 @@ impl Joiner {
     fn is_over(&self, piece: &[u8]) -> bool
         ensures { result ≡ is_over self.now piece.now }
     {
-        self.count >= MOST_FRAGMENTS || self.bytes.len().saturating_add(piece.len()) > MOST_BYTES
+        self.count >= MOST_FRAGMENTS
+            || self.bytes.len().saturating_add(piece.len()) > MOST_MESSAGE_BYTES
     }
 
     // Makes room for so many further bytes: twice the room that there was, but for no more than a message may have. So a
@@ -116,7 +111,7 @@ impl Joiner {
         if wanted <= room {
             return Ok(());
         }
-        let next = room.saturating_mul(2).min(MOST_BYTES).max(wanted);
+        let next = room.saturating_mul(2).min(MOST_MESSAGE_BYTES).max(wanted);
         self.bytes.reserve_exact(next - self.bytes.len())
     }
 

@@ -1,12 +1,11 @@
-// The types between threads.
+//! What may be handed to another thread and shared with it.
+
+use crate::arrival::Arrival;
+use crate::message_joiner::MessageJoiner;
 use crate::{Cuts, Ending, Fed, JoinFault, Joiner, Piece};
+use mdoc_outside::{is_send, is_sync};
 
-fn is_send<T: Send>() {}
-
-fn is_sync<T: Sync>() {}
-
-/// Holds no work: that it compiles shows that these types may move to another thread and be shared
-/// between threads.
+/// The types of this crate may be handed to another thread and shared with it.
 pub fn types_are_send_and_sync() {
     is_send::<Joiner>();
     is_sync::<Joiner>();
@@ -20,4 +19,8 @@ pub fn types_are_send_and_sync() {
     is_sync::<Cuts<'static>>();
     is_send::<Piece<'static>>();
     is_sync::<Piece<'static>>();
+    is_send::<MessageJoiner>();
+    is_sync::<MessageJoiner>();
+    is_send::<Arrival>();
+    is_sync::<Arrival>();
 }

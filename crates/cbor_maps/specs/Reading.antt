@@ -2,7 +2,8 @@
 use Rattle.std.specs.Prelude.{ℕ, List, [], ◌∷◌, Option, Some, None, Result, Ok, Err, option_map, option_and_then}
 use Rattle.mdoc_outside.specs.declared.key_name.KeyName.{KeyName}
 use Rattle.mdoc_outside.specs.KeyName.{key_text}
-use Rattle.mdoc_outside.specs.ResultSteps.{◌>>=◌}
+use Rattle.mdoc_outside.specs.ResultSteps.{◌>>=◌, or_fault}
+use Rattle.cbor_view.specs.declared.cbor_fault.CborFault.{CborFault}
 use Rattle.cbor_view.specs.declared.doubled.Doubled as views
 use Rattle.cbor_view.specs.Label.{Words}
 use Rattle.cbor_view.specs.Parts.{Part, entry_in, pairs_in, bytes_in, tagged}
@@ -58,3 +59,26 @@ map_in value = option_map (λ entries. value) (pairs_in value)
 
 abbrev pub encoded_in : Part → Option (List ℕ)
 encoded_in value = option_and_then bytes_in (tagged 24 value)
+
+-- ---- the same, with a fault of those who read
+
+-- what is under a key, or a fault where the key is there twice
+abbrev pub once : {A E : Type 0} → E → Result A views.Doubled → Result A E
+once fault (Ok found) = Ok found
+once fault (Err twice) = Err fault
+
+-- what is under named keys, or a fault by what is wrong with a key
+abbrev pub map_fault : {A E : Type 0} → (KeyName → E) → (KeyName → E) → Result A MapFault → Result A E
+map_fault doubled field (Ok value) = Ok value
+map_fault doubled field (Err (Doubled name)) = Err (doubled name)
+map_fault doubled field (Err (Field name)) = Err (field name)
+
+-- the string of bytes under tag 24 that an item is, or a fault
+abbrev pub tagged_string : {E : Type 0} → E → Result Part CborFault → Result (List ℕ) E
+tagged_string fault (Ok whole) = or_fault fault (encoded_in whole)
+tagged_string fault (Err other) = Err fault
+
+-- the item that a string spells, or a fault by what is wrong with its CBOR
+abbrev pub spelled_item : {E : Type 0} → (CborFault → E) → Result Part CborFault → Result Part E
+spelled_item fault (Ok item) = Ok item
+spelled_item fault (Err other) = Err (fault other)

@@ -5,6 +5,7 @@
 //! a map that was written is read as the same.
 #![tactic(auto)]
 
+mod append;
 mod find;
 mod found;
 mod laws;
@@ -13,6 +14,7 @@ mod map_fault;
 mod named_map;
 mod sharing;
 
+pub use append::{append_key, append_map_head};
 pub use laws::{
     labelled_map_is_spelled, named_map_is_spelled, written_field_is_read, written_label_is_read,
 };

@@ -133,7 +133,7 @@ impl<'a> NamedMap<'a> {
     /// The value under a name, of whatever kind.
     pub fn item(&self, name: KeyName) -> Result<View<'a>, MapFault>
         ensures exact { Gives part result (field name any_in (whole_map self.now)) }
-        ensures lies { IfOk result (λ v. LiesIn (whole_map self.now) (part v)) }
+        ensures stands_in { IfOk result (λ v. LiesIn (whole_map self.now) (part v)) }
     {
         match self.found_under(name) {
             Found::Once(value) => Ok(value),
@@ -159,7 +159,7 @@ impl<'a> NamedMap<'a> {
     /// The string of bytes under a name.
     pub fn bytes(&self, name: KeyName) -> Result<&'a [u8], MapFault>
         ensures exact { Gives (λ b. b.now) result (field name bytes_in (whole_map self.now)) }
-        ensures lies { IfOk result (λ b. IsPart (whole_map self.now).bytes b.now) }
+        ensures stands_in { IfOk result (λ b. IsPart (whole_map self.now).bytes b.now) }
     {
         needed!(self, name, value => value.bytes())
     }
@@ -167,7 +167,7 @@ impl<'a> NamedMap<'a> {
     /// The text under a name.
     pub fn text(&self, name: KeyName) -> Result<&'a str, MapFault>
         ensures exact { Gives (λ t. t.now) result (field name text_in (whole_map self.now)) }
-        ensures lies { IfOk result (λ t. IsPart (whole_map self.now).bytes t.now) }
+        ensures stands_in { IfOk result (λ t. IsPart (whole_map self.now).bytes t.now) }
     {
         needed!(self, name, value => value.text())
     }
@@ -175,7 +175,7 @@ impl<'a> NamedMap<'a> {
     /// The items of the array under a name.
     pub fn items(&self, name: KeyName) -> Result<Items<'a>, MapFault>
         ensures exact { Gives left result (field name items_in (whole_map self.now)) }
-        ensures lies { IfOk result (λ it. AllLieIn (whole_map self.now) (left it)) }
+        ensures stands_in { IfOk result (λ it. AllLieIn (whole_map self.now) (left it)) }
     {
         needed!(self, name, value => value.items())
     }
@@ -183,7 +183,7 @@ impl<'a> NamedMap<'a> {
     /// The map under a name.
     pub fn map(&self, name: KeyName) -> Result<View<'a>, MapFault>
         ensures exact { Gives part result (field name map_in (whole_map self.now)) }
-        ensures lies { IfOk result (λ v. LiesIn (whole_map self.now) (part v)) }
+        ensures stands_in { IfOk result (λ v. LiesIn (whole_map self.now) (part v)) }
     {
         needed!(self, name, value => if_map(value))
     }
@@ -191,7 +191,7 @@ impl<'a> NamedMap<'a> {
     /// The bytes of encoded CBOR under a name: a string under tag 24 (RFC 8949, section 3.4.5.1).
     pub fn encoded(&self, name: KeyName) -> Result<&'a [u8], MapFault>
         ensures exact { Gives (λ b. b.now) result (field name encoded_in (whole_map self.now)) }
-        ensures lies { IfOk result (λ b. IsPart (whole_map self.now).bytes b.now) }
+        ensures stands_in { IfOk result (λ b. IsPart (whole_map self.now).bytes b.now) }
     {
         needed!(self, name, value => encoded_bytes(value))
     }
@@ -199,7 +199,7 @@ impl<'a> NamedMap<'a> {
     /// The value under a name that may be missing, of whatever kind.
     pub fn optional_item(&self, name: KeyName) -> Result<Option<View<'a>>, MapFault>
         ensures exact { Gives (option_map part) result (optional_field name any_in (whole_map self.now)) }
-        ensures lies { IfOk result (λ found. IfSome found (λ v. LiesIn (whole_map self.now) (part v))) }
+        ensures stands_in { IfOk result (λ found. IfSome found (λ v. LiesIn (whole_map self.now) (part v))) }
     {
         match self.found_under(name) {
             Found::Once(value) => Ok(Some(value)),
@@ -218,7 +218,7 @@ impl<'a> NamedMap<'a> {
     /// The string of bytes under a name that may be missing.
     pub fn optional_bytes(&self, name: KeyName) -> Result<Option<&'a [u8]>, MapFault>
         ensures exact { Gives (option_map (λ b. b.now)) result (optional_field name bytes_in (whole_map self.now)) }
-        ensures lies { IfOk result (λ found. IfSome found (λ b. IsPart (whole_map self.now).bytes b.now)) }
+        ensures stands_in { IfOk result (λ found. IfSome found (λ b. IsPart (whole_map self.now).bytes b.now)) }
     {
         allowed!(self, name, value => value.bytes())
     }

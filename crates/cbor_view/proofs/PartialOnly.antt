@@ -30,8 +30,8 @@ record Firsts (d : ℕ) (file p mid : Part) : Type 0 where
   front_is : front file mid.bytes ≡ p
   some : item_first d file ≡ Some (p, mid)
 
-firsts : (d inside : ℕ) (file p mid : Part) → inside + d ≡ 32 → StandsFirst inside file p mid → Firsts d file p mid
-firsts d inside file p mid room s =
+distinct_texts : (d inside : ℕ) (file p mid : Part) → inside + d ≡ 32 → StandsFirst inside file p mid → Firsts d file p mid
+distinct_texts d inside file p mid room s =
     let e : item_at d file.bytes ≡ read s.tree mid.bytes = ap (item_at d) s.bytes ∙ item-again s.tree d p.bytes mid.bytes s.spelled (let n = s.nesting in omega arith) in
     let f : front file mid.bytes ≡ p = front-is file p.bytes mid.bytes s.bytes ∙ ap (λ (m : ℕ). record { at = m; bytes = p.bytes }) (sym s.place) in
     let b : body_of file mid.bytes ≡ mid = body-is file p.bytes mid.bytes s.bytes ∙ ap (λ (m : ℕ). record { at = m; bytes = mid.bytes }) (sym s.next) in
@@ -52,7 +52,7 @@ items-run [] d inside (suc n) file after s room row l e =
     let here : RunsTo d (suc n) after [] after s = record { run_is = run-none (item_first d) n after (first-none d after s e); fails = items-first (item_at d) (suc n) after.bytes s e (omega arith) } in
     subst (λ (f : Part). RunsTo d (suc n) f [] after s) row here
 items-run (p ∷ ps) d inside (suc n) file after s room row l e =
-    let f = firsts d inside file p row.mid room row.first in
+    let f = distinct_texts d inside file p row.mid room row.first in
     let r = items-run ps d inside n row.mid after s room row.others (omega arith) e in
     let put : List Part × Part → List Part × Part = λ w. (p ∷ w.0, w.1) in
     record {
@@ -78,8 +78,8 @@ pairs-run [] d inside (suc n) file after s room row l e =
     let here : PairsTo d (suc n) after [] after s = record { run_is = run-none (pair_first d) n after e.none_is; fails = e.fails (suc n) (omega arith) } in
     subst (λ (f : Part). PairsTo d (suc n) f [] after s) row here
 pairs-run (entry ∷ es) d inside (suc n) file after s room row l e =
-    let k = firsts d inside file entry.0 row.mid room row.first in
-    let v = firsts d inside row.mid entry.1 row.others.mid room row.others.first in
+    let k = distinct_texts d inside file entry.0 row.mid room row.first in
+    let v = distinct_texts d inside row.mid entry.1 row.others.mid room row.others.first in
     let r = pairs-run es d inside n row.others.mid after s room row.others.others (omega arith) e in
     let put : List (Part × Part) × Part → List (Part × Part) × Part = λ w. (entry ∷ w.0, w.1) in
     record {
@@ -98,7 +98,7 @@ no-pair-key d p s e = record { none_is = no-key d p (first-none d p s e); fails 
 
 no-pair-value : (d inside : ℕ) (p k mid : Part) (s : Stop) → inside + d ≡ 32 → StandsFirst inside p k mid → item_at d mid.bytes ≡ Err s → NoPair d p s
 no-pair-value d inside p k mid s room first e =
-    let f = firsts d inside p k mid room first in
+    let f = distinct_texts d inside p k mid room first in
     record { none_is = no-value d p k mid f.some (first-none d mid s e); fails = λ n l. pairs-value (item_at d) n p.bytes mid.bytes f.tree s f.is_read e l }
 
 -- the last of a row
@@ -191,7 +191,7 @@ only-value at d inside entries key value Next p room place u m e =
     let h = m.stands in
     let c = is-cut value d h.after e u in
     let r = row-split (suc inside) (keys_and_values entries) key h.after h.body h.row in
-    let k = firsts d (suc inside) r.mid key h.after room r.last in
+    let k = distinct_texts d (suc inside) r.mid key h.after room r.last in
     map-cut m.n d inside entries r.mid p h.body h.head c.s room m.limit m.fewer h.spelled h.bytes h.place r.row (no-pair-value d (suc inside) r.mid key h.after c.s room r.last c.fault)
     ∙ rw k.some (ap (λ (g : PartialItem). in_value p.at entries key g) e ∙ ap (λ (k : ℕ). in_value k entries key value) (sym place))
 
@@ -208,7 +208,7 @@ only-tag at n d inside inner Next p room place u h e =
 -- ---- all levels
 
 only : (g : PartialItem) (d inside : ℕ) (p : Part) → inside + d ≡ 32 → Stands g inside p → partial_item_at d p ≡ g
-only (whole q) d inside p room s = let f = firsts d inside p q s.0 room s.1 in partial-whole d p (f.tree, s.0.bytes) f.is_read ∙ ap (λ (x : Part). whole x) f.front_is
+only (whole q) d inside p room s = let f = distinct_texts d inside p q s.0 room s.1 in partial-whole d p (f.tree, s.0.bytes) f.is_read ∙ ap (λ (x : Part). whole x) f.front_is
 only (broken fault) d inside p room s = only-broken fault d inside p room s
 only (in_array at n items next) zero inside p room s = let l = s.4.nesting in absurd (omega arith)
 only (in_array at n items next) (suc d) inside p room s = only-array at n d inside items next (Stands next (suc inside)) p (omega arith) s.0 s.1 s.2 s.3 s.4 (only next d (suc inside) s.4.after (omega arith) s.4.next)

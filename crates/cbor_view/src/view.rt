@@ -149,7 +149,7 @@ impl<'a> View<'a> {
     pub fn tag(&self) -> Option<(u64, View<'a>)>
         ensures exact { option_map (λ x. (x.0, tree x.1)) result ≡ tag_of (tree self.now) }
         ensures place { option_map (λ x. (x.0, part x.1)) result ≡ tag_in (part self.now) }
-        ensures lies { IfSome result (λ x. LiesIn (part self.now) (part x.1)) }
+        ensures stands_in { IfSome result (λ x. LiesIn (part self.now) (part x.1)) }
     {
         match split_head(self.slice) {
             (Head::Tag(number), body) => {
@@ -201,7 +201,7 @@ impl<'a> View<'a> {
     pub fn entry(&self, key: Key<'_>) -> Result<Option<View<'a>>, Doubled>
         ensures exact { Gives (option_map tree) result (entry_tree key.entry self.now) }
         ensures place { Gives (option_map part) result (entry_part key.entry self.now) }
-        ensures lies { IfOk result (λ found. IfSome found (λ v. LiesIn (part self.now) (part v))) }
+        ensures stands_in { IfOk result (λ found. IfSome found (λ v. LiesIn (part self.now) (part v))) }
     {
         let Some(pairs) = self.pairs() else {
             return Ok(None);

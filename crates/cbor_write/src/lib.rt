@@ -5,7 +5,9 @@
 #![tactic(auto)]
 
 mod build;
+mod count;
 mod laws;
 
 pub use build::Build;
+pub use count::count_of;
 pub use laws::written_is_read;

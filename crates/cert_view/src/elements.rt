@@ -10,7 +10,7 @@ use std::alloc::Global;
 
 /// Appends a length in the definite form with the fewest bytes (X.690, 10.1). One of 2^32 or more
 /// has no such form here, and is answered by want of memory.
-fn put_length(out: &mut Vec<u8>, length: usize) -> Result<(), Memory>
+fn append_length(out: &mut Vec<u8>, length: usize) -> Result<(), Memory>
     ensures { OnOk result (out.new.items ≡ out.old.items ++ length_bytes length) }
 {
     let low = (length % 0x100) as u8;
@@ -51,7 +51,7 @@ pub(crate) fn element(alloc: Global, tag: u8, parts: &[&[u8]]) -> Result<Vec<u8>
     let body = concatenated(alloc, parts)?;
     let mut bytes = Vec::new(alloc);
     bytes.push(tag)?;
-    put_length(&mut bytes, body.len())?;
+    append_length(&mut bytes, body.len())?;
     bytes.extend_from_slice(&body)?;
     Ok(bytes)
 }

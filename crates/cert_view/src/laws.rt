@@ -5,7 +5,7 @@ ghost use Rattle.cert_view.specs.Integers.{number_of, worth};
 ghost use Rattle.cert_view.specs.Times.{utc_time};
 
 /// The 32 bytes of an INTEGER are worth what its body is.
-pub fn number_keeps_its_worth()
+pub fn integer_value_is_kept()
     ensures worth { (body bytes : List ℕ) → number_of body ≡ Some bytes → worth bytes ≡ worth body }
     ensures size { (body bytes : List ℕ) → number_of body ≡ Some bytes → length bytes ≡ 32 }
 {}

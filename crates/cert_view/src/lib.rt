@@ -32,7 +32,7 @@ pub use cert::Cert;
 pub use cert_check::CertCheck;
 pub use cert_draft::CertDraft;
 pub use cert_fault::CertFault;
-pub use laws::{number_keeps_its_worth, utc_time_is_of_its_years};
+pub use laws::{integer_value_is_kept, utc_time_is_of_its_years};
 pub use root::Root;
 pub use roots::Roots;
 pub use roots_fault::RootsFault;

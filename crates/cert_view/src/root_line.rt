@@ -11,12 +11,9 @@ ghost use Rattle.cert_view.specs.Roots.{line_root, ReadsRoots};
 use crate::root::Root;
 use crate::roots_fault::RootsFault;
 use hex::FromHexError;
-use mdoc_outside::{FileLine, Memory, Octets, Word, is_name};
+use mdoc_outside::{FileLine, MOST_CERTIFICATE_BYTES, Memory, Octets, Word, is_name};
 use std::alloc::{AllocError, Global};
 use std::str;
-
-/// The most bytes of a certificate in the file.
-const MOST_CERTIFICATE_BYTES: usize = 8192;
 
 /// Whether the word may name a root: `*` and `+` say any reader, and any known one.
 fn names_root(word: &[u8]) -> bool

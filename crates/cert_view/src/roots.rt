@@ -6,12 +6,9 @@ ghost use Rattle.cert_view.specs.Roots.{roots_of, ReadsRoots};
 use crate::root::Root;
 use crate::root_line::line_root;
 use crate::roots_fault::RootsFault;
-use mdoc_outside::lines_of;
+use mdoc_outside::{MOST_ROOTS, lines_of};
 use std::alloc::Global;
 use std::marker::Model;
-
-/// The most roots of a file.
-const MOST_ROOTS: usize = 64;
 
 /// Trusted certificates, in order, which a contract sees as the list of them.
 #[derive(Drop)]
@@ -40,7 +37,7 @@ impl Roots {
         for line in lines_of(text) {
             let root = line_root(alloc, &line)?;
             if roots.len() >= MOST_ROOTS {
-                return Err(RootsFault::TooMany(65));
+                return Err(RootsFault::TooMany(MOST_ROOTS as u64 + 1));
             }
             roots.push(root)?;
         }

@@ -6,10 +6,7 @@ use crate::root::Root;
 use crate::roots::Roots;
 use crate::roots_fault::RootsFault;
 use crate::verify_ask::VerifyAsk;
-
-fn is_send<T: Send>() {}
-
-fn is_sync<T: Sync>() {}
+use mdoc_outside::{is_send, is_sync};
 
 /// Certificates, what is asked of them, roots and their faults are Send and Sync.
 pub fn types_are_send_and_sync() {

@@ -3,11 +3,12 @@ use Rattle.std.proofs.Common.{◌≡◌, ◌⊎◌, ℕ, zero, suc, ◌<◌, ref
 use Rattle.std.specs.List.{AllByRecursion}
 use Rattle.std.proofs.lemmas.List.Elements.{All-from_recursion, All-contains, Contains-append_right}
 use Rattle.mdoc_outside.specs.ResultSteps.{◌>>=◌, or_fault}
+use Rattle.mdoc_outside.specs.ListSteps.{unless}
 use Rattle.cert_view.specs.declared.cert_check.CertCheck.{CertCheck}
 use Rattle.cert_view.specs.declared.cert_check.CertCheck.TheVariants.{Der, Shape, VersionNot3, Algorithm, Time, KeyKind, Signature, Extension}
 use Rattle.cert_view.specs.declared.cert_fault.CertFault.{CertFault}
 use Rattle.cert_view.specs.Faults.{rank, is_before, both}
-use Rattle.certificate_laws.specs.Faults.{unless, then_faults, faults_in, IsFirst}
+use Rattle.certificate_laws.specs.Faults.{then_faults, faults_in, IsFirst}
 
 -- ---- one of a list
 

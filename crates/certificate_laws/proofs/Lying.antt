@@ -23,47 +23,47 @@ Lies all (Ok q) = LiesIn all q
 Lies all (Err f) = Unit {0}
 
 lie-each : (all : Part) (ps : List (Result Part DerFault)) (r : Part) → AreParts r ps → LiesIn all r → AllByRecursion (Lies all) ps
-lie-each all [] r are lies = tt
-lie-each all ((Err f) ∷ []) r are lies = (tt, tt)
-lie-each all ((Err f) ∷ (p ∷ ps)) r are lies = absurd are
-lie-each all ((Ok q) ∷ ps) r are lies =
+lie-each all [] r are stands_in = tt
+lie-each all ((Err f) ∷ []) r are stands_in = (tt, tt)
+lie-each all ((Err f) ∷ (p ∷ ps)) r are stands_in = absurd are
+lie-each all ((Ok q) ∷ ps) r are stands_in =
     let first = are.0 in
     let rest = drop (length q.bytes) r.bytes in
-    let joined : all.bytes ≡ lies.before ++ (q.bytes ++ (rest ++ lies.after)) =
-    lies.whole ∙ ap (λ (x : List ℕ). lies.before ++ (x ++ lies.after)) first.whole ∙ ap (λ (x : List ℕ). lies.before ++ x) (append_assoc q.bytes rest lies.after) in
+    let joined : all.bytes ≡ stands_in.before ++ (q.bytes ++ (rest ++ stands_in.after)) =
+    stands_in.whole ∙ ap (λ (x : List ℕ). stands_in.before ++ (x ++ stands_in.after)) first.whole ∙ ap (λ (x : List ℕ). stands_in.before ++ x) (append_assoc q.bytes rest stands_in.after) in
     let others : LiesIn all (behind (length q.bytes) r) = record {
-      before = lies.before ++ q.bytes;
-      after = lies.after;
-      whole = joined ∙ sym (append_assoc lies.before q.bytes (rest ++ lies.after));
-      place = (let p = lies.place in omega (arith, p, length-append lies.before q.bytes));
+      before = stands_in.before ++ q.bytes;
+      after = stands_in.after;
+      whole = joined ∙ sym (append_assoc stands_in.before q.bytes (rest ++ stands_in.after));
+      place = (let p = stands_in.place in omega (arith, p, length-append stands_in.before q.bytes));
     } in
-    (record { before = lies.before; after = rest ++ lies.after; whole = joined; place = first.place ∙ lies.place }, lie-each all ps (behind (length q.bytes) r) are.1 others)
+    (record { before = stands_in.before; after = rest ++ stands_in.after; whole = joined; place = first.place ∙ stands_in.place }, lie-each all ps (behind (length q.bytes) r) are.1 others)
 
 -- the body follows the tag and the length
 body-lies : (all p : Part) (tag : ℕ) (body : List ℕ) → IsElement p.bytes tag body → LiesIn all p → LiesIn all (body_part p)
-body-lies all p tag body is lies =
+body-lies all p tag body is stands_in =
     let head : List ℕ = tag ∷ length_bytes (length body) in
     let same : body_of p.bytes ≡ body = body-of p.bytes tag body is in
     let spelled : p.bytes ≡ head ++ body_of p.bytes = is.spelled ∙ ap (λ (x : List ℕ). head ++ x) (sym same) in
     let size : length p.bytes ≡ length head + length (body_of p.bytes) = ap length spelled ∙ length-append head (body_of p.bytes) in
     record {
-      before = lies.before ++ head;
-      after = lies.after;
-      whole = lies.whole ∙ ap (λ (x : List ℕ). lies.before ++ (x ++ lies.after)) spelled
-          ∙ ap (λ (x : List ℕ). lies.before ++ x) (append_assoc head (body_of p.bytes) lies.after)
-          ∙ sym (append_assoc lies.before head (body_of p.bytes ++ lies.after));
-      place = (let q = lies.place in omega (arith, q, size, length-append lies.before head));
+      before = stands_in.before ++ head;
+      after = stands_in.after;
+      whole = stands_in.whole ∙ ap (λ (x : List ℕ). stands_in.before ++ (x ++ stands_in.after)) spelled
+          ∙ ap (λ (x : List ℕ). stands_in.before ++ x) (append_assoc head (body_of p.bytes) stands_in.after)
+          ∙ sym (append_assoc stands_in.before head (body_of p.bytes ++ stands_in.after));
+      place = (let q = stands_in.place in omega (arith, q, size, length-append stands_in.before head));
     }
 
 each-lies : (all p : Part) (tag : ℕ) (body : List ℕ) → AreBytes p.bytes → IsElement p.bytes tag body → LiesIn all p → AllByRecursion (Lies all) (parts_of p)
-each-lies all p tag body are is lies =
+each-lies all p tag body are is stands_in =
     let own : AreBytes (body_of p.bytes) = subst AreBytes (sym (body-of p.bytes tag body is)) (body-bytes p.bytes tag body is are) in
-    lie-each all (parts_of p) (body_part p) (parts-are (body_part p) own) (body-lies all p tag body is lies)
+    lie-each all (parts_of p) (body_part p) (parts-are (body_part p) own) (body-lies all p tag body is stands_in)
 
 pub parts-lie : (all p q : Part) (tag : ℕ) (body : List ℕ) → elements.AreBytes p.bytes → IsElement p.bytes tag body → LiesIn all p → Contains (parts_of p) (Ok q) → LiesIn all q
-parts-lie all p q tag body are is lies among =
+parts-lie all p q tag body are is stands_in among =
     let found : Result Part DerFault = Ok q in
-    All-contains (Lies all) (parts_of p) found (All-from_recursion (Lies all) (parts_of p) (each-lies all p tag body (record { each = are }) is lies)) among
+    All-contains (Lies all) (parts_of p) found (All-from_recursion (Lies all) (parts_of p) (each-lies all p tag body (record { each = are }) is stands_in)) among
 
 -- ---- a certificate
 
@@ -71,8 +71,8 @@ row-is : (tag at : ℕ) (parts : List (List ℕ)) (bytes : List ℕ) → IsMadeO
 row-is tag at parts bytes whole = ap (λ (x : List ℕ). parts_of (place at x)) whole.is.spelled ∙ parts-in at tag parts whole.is.is_tag (elems parts whole.each)
 
 row-lies : (all : Part) (tag at : ℕ) (parts : List (List ℕ)) (bytes : List ℕ) → AreBytes bytes → IsMadeOf tag parts bytes → LiesIn all (place at bytes) → AllByRecursion (Lies all) (placed (after_head at tag (concatenated parts)) parts)
-row-lies all tag at parts bytes are whole lies =
-    subst (AllByRecursion (Lies all)) (row-is tag at parts bytes whole) (each-lies all (place at bytes) tag (concatenated parts) are whole.is lies)
+row-lies all tag at parts bytes are whole stands_in =
+    subst (AllByRecursion (Lies all)) (row-is tag at parts bytes whole) (each-lies all (place at bytes) tag (concatenated parts) are whole.is stands_in)
 
 whole-lies : (bytes : List ℕ) → LiesIn (whole_part bytes) (place 0 bytes)
 whole-lies bytes = record { before = []; after = []; whole = sym (append-nil bytes); place = refl }

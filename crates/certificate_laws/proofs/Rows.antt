@@ -5,6 +5,7 @@ use Rattle.std.proofs.lemmas.List.{map-append, flat_map_more}
 use Rattle.std.proofs.lemmas.List.Elements.{filter-append}
 use Rattle.mdoc_outside.specs.ResultSteps.{◌>>=◌, or_fault}
 use Rattle.mdoc_outside.specs.OptionSteps.{◌>>=◌ as ◌>>?◌}
+use Rattle.mdoc_outside.specs.ListSteps.{unless}
 use Rattle.der_view.specs.declared.der_fault.DerFault.{DerFault}
 use Rattle.der_view.specs.Parts.{Part, parts_of}
 use Rattle.der_view.specs.Reading.{body_of}
@@ -15,7 +16,7 @@ use Rattle.cert_view.specs.Extensions.{extended_key_usage, said_once}
 use Rattle.cert_view.specs.Faults.{fault, is_before, both}
 use Rattle.cert_view.specs.Shapes.{has_tag, all_read}
 use Rattle.cert_view.proofs.WrittenParts.{place, placed}
-use Rattle.certificate_laws.specs.Faults.{unless, then_faults, unread, extension_faults, has_usage_name, is_usage, extension_at, further_usages, list_faults, read_parts}
+use Rattle.certificate_laws.specs.Faults.{then_faults, unread, extension_faults, has_usage_name, is_usage, extension_at, further_usages, list_faults, read_parts}
 use Rattle.certificate_laws.proofs.Firsts.{In, in-left, in-right, in-cases, Reports, least-one, reports-same, both-reports}
 use Rattle.certificate_laws.proofs.Shapes.{extension-reports}
 use Rattle.certificate_laws.proofs.Steps.{stepped, chosen, or_fault-ok, both-ok, if-ok}

@@ -2,6 +2,7 @@
 use Rattle.std.proofs.Common.{◌≡◌, ℕ, refl, sym, ap, ◌∙◌, subst, inl, Bool, true, false, if◌then◌else◌, List, [], ◌∷◌, ◌++◌, Option, Some, is_some, Result, Ok, Err, bytes_eq}
 use Rattle.mdoc_outside.specs.ResultSteps.{◌>>=◌, or_fault}
 use Rattle.mdoc_outside.specs.OptionSteps.{◌>>=◌ as ◌>>?◌}
+use Rattle.mdoc_outside.specs.ListSteps.{unless}
 use Rattle.der_view.specs.declared.der_fault.DerFault.{DerFault}
 use Rattle.der_view.specs.Parts.{Part, parts_of}
 use Rattle.der_view.specs.Reading.{body_of}
@@ -16,7 +17,7 @@ use Rattle.cert_view.specs.Signatures.{signature_of}
 use Rattle.cert_view.specs.Tbs as tbs
 use Rattle.cert_view.specs.Tbs.{ecdsa_with_sha256, one_or_two, point_under}
 use Rattle.cert_view.specs.Times.{utc_time, generalized_time}
-use Rattle.certificate_laws.specs.Faults.{unless, then_faults, tag_faults, unread, faults_in, shape_faults, number_faults, version_faults, name_faults, algorithm_faults, time_faults, both_times, validity_faults, first_name, key_algorithm_faults, is_point, point_faults, key_faults, signature_faults, extension_faults}
+use Rattle.certificate_laws.specs.Faults.{then_faults, tag_faults, unread, faults_in, shape_faults, number_faults, version_faults, name_faults, algorithm_faults, time_faults, both_times, validity_faults, first_name, key_algorithm_faults, is_point, point_faults, key_faults, signature_faults, extension_faults}
 use Rattle.certificate_laws.proofs.Firsts.{Reports, least-one, unless-reports, or_fault-reports, both-reports, then-reports, mapped-reports, in-reports}
 use Rattle.certificate_laws.proofs.Steps.{stepped, or_fault-ok, both-ok, if-ok}
 

@@ -3,6 +3,7 @@
 use Rattle.std.specs.Prelude.{◌≡◌, ℕ, Bool, true, false, if◌then◌else◌, List, [], ◌∷◌, ◌++◌, map, filter, flat_map, drop, Option, Some, None, is_some, Result, Ok, Err, All, Contains}
 use Rattle.std.specs.Str.{bytes_eq}
 use Rattle.mdoc_outside.specs.OptionSteps.{◌>>=◌}
+use Rattle.mdoc_outside.specs.ListSteps.{unless}
 use Rattle.der_view.specs.declared.der_fault.DerFault.{DerFault}
 use Rattle.der_view.specs.Parts.{Part, der, parts_of}
 use Rattle.der_view.specs.Reading.{body_of}
@@ -16,11 +17,6 @@ use Rattle.cert_view.specs.Tbs.{ecdsa_with_sha256, one_or_two, point_under, Layo
 use Rattle.cert_view.specs.Times.{utc_time, generalized_time}
 
 -- ---- elements and their parts
-
--- a fault unless a test passes
-abbrev pub unless : Bool → CertFault → List CertFault
-unless true f = []
-unless false f = f ∷ []
 
 -- what is looked for where nothing of this is wrong
 abbrev pub then_faults : List CertFault → List CertFault → List CertFault

@@ -56,12 +56,12 @@ pub fn faultless_parts()
 {}
 
 /// A part of an element that lies in others lies in them too, at its place.
-pub fn parts_lie()
+pub fn parts_stand_in_bytes()
     ensures { (all p q : Part) (tag : ℕ) (body : List ℕ) → AreBytes p.bytes → IsElement p.bytes tag body → LiesIn all p → Contains (parts_of p) (Ok q) → LiesIn all q }
 {}
 
 /// What the fields of a certificate borrow are parts of it that lie in its bytes, each at its place: what
 /// is signed, the issuer and the subject.
-pub fn fields_lie()
+pub fn fields_stand_in_bytes()
     ensures { (bytes : List ℕ) (fields : Fields) → AreBytes bytes → certificate bytes ≡ Ok fields → FieldsLie bytes fields }
 {}

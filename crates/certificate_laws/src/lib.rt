@@ -6,6 +6,6 @@
 mod laws;
 
 pub use laws::{
-    faultless_is_certificate, faultless_parts, fields_lie, first_fault, is_certificate, is_layout,
-    parts_lie,
+    faultless_is_certificate, faultless_parts, fields_stand_in_bytes, first_fault, is_certificate,
+    is_layout, parts_stand_in_bytes,
 };

@@ -51,12 +51,12 @@ abbrev pub texts_of : List ℕ → Option TextPattern
 texts_of word = if bytes_eq word (codes "*") then Some texts.Any else if is_name word then Some (texts.Exactly word) else None
 
 -- `0` or `1`
-abbrev pub flag_of : List ℕ → Option Bool
-flag_of word = if bytes_eq word (codes "0") then Some false else if bytes_eq word (codes "1") then Some true else None
+abbrev pub read_flag : List ℕ → Option Bool
+read_flag word = if bytes_eq word (codes "0") then Some false else if bytes_eq word (codes "1") then Some true else None
 
 -- `*`, `0` or `1`
 abbrev pub intent_of : List ℕ → Option (Option Bool)
-intent_of word = if bytes_eq word (codes "*") then Some None else flag_of word >>= λ retain. Some (Some retain)
+intent_of word = if bytes_eq word (codes "*") then Some None else read_flag word >>= λ retain. Some (Some retain)
 
 -- The rule that a line says: ACTION READER TYPE NAMESPACE ELEMENT RETAIN.
 abbrev pub rule_of : List (List ℕ) → Option Rule

@@ -15,7 +15,7 @@ mod wish;
 pub use reader_pattern::ReaderPattern;
 pub use rule::Rule;
 pub use rule_fault::RuleFault;
-pub use rule_line::flag_of;
+pub use rule_line::read_flag;
 pub use rules::Rules;
 pub use sharing::types_are_send_and_sync;
 pub use text_pattern::TextPattern;

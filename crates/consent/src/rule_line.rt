@@ -4,7 +4,7 @@ ghost use Rattle.std.specs.Prelude.{◌≡◌, ℕ, List, IfOk, map};
 ghost use Rattle.std.specs.Borrow.{Bor};
 ghost use Rattle.mdoc_outside.specs.FileLine.{line};
 ghost use Rattle.consent.specs.Grammar.{ReadsLines, line_of};
-ghost use Rattle.consent.specs.Rule.{action_of, readers_of, texts_of, flag_of, intent_of, rule_of};
+ghost use Rattle.consent.specs.Rule.{action_of, readers_of, texts_of, read_flag, intent_of, rule_of};
 
 use crate::{ReaderPattern, Rule, RuleFault, TextPattern};
 use mdoc_outside::{FileLine, Memory, Octets, is_name};
@@ -22,8 +22,8 @@ fn action_of(word: &[u8]) -> Option<bool>
 }
 
 /// The flag that a word of a line file says: `0` or `1`, and no other word.
-pub fn flag_of(word: &[u8]) -> Option<bool>
-    ensures { result ≡ flag_of word.now }
+pub fn read_flag(word: &[u8]) -> Option<bool>
+    ensures { result ≡ read_flag word.now }
 {
     match word {
         b"0" => Some(false),
@@ -38,7 +38,7 @@ fn intent_of(word: &[u8]) -> Option<Option<bool>>
 {
     match word {
         b"*" => Some(None),
-        _ => flag_of(word).map(Some),
+        _ => read_flag(word).map(Some),
     }
 }
 

@@ -1,10 +1,7 @@
 //! What may be handed to another thread and shared with it.
 
 use crate::{Rule, RuleFault, Rules, Wish};
-
-fn is_send<T: Send>() {}
-
-fn is_sync<T: Sync>() {}
+use mdoc_outside::{is_send, is_sync};
 
 /// Rules, what they are asked about and their faults are Send and Sync.
 pub fn types_are_send_and_sync() {

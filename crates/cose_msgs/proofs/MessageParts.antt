@@ -23,7 +23,7 @@ use Rattle.cose_msgs.specs.MessageView.{message, HasParts}
 -- ---- the four items of a message
 
 string-part : (all p : Part) (b : List ℕ) → LiesIn all p → bytes_in p ≡ Some b → IsPart all.bytes b
-string-part all p b lies is = part-within all.bytes p.bytes b (lies-part all p lies) (ends-part p.bytes b (bytes-end p b is))
+string-part all p b stands_in is = part-within all.bytes p.bytes b (lies-part all p stands_in) (ends-part p.bytes b (bytes-end p b is))
 
 map-is : (p q : Part) → map_in p ≡ Some q → p ≡ q
 map-is p q is = go (pairs_in p) is where
@@ -32,10 +32,10 @@ map-is p q is = go (pairs_in p) is where
   go (Some entries) e = cc
 
 payload-part : (all p : Part) (o : Option (List ℕ)) → LiesIn all p → bytes_or_null p ≡ Some o → IfSome o (IsPart all.bytes)
-payload-part all p o lies is = by_null (is_null (tree_in p)) is where
+payload-part all p o stands_in is = by_null (is_null (tree_in p)) is where
   by_bytes : (b : Option (List ℕ)) → bytes_in p ≡ b → option_map (λ (x : List ℕ). Some x) b ≡ Some o → IfSome o (IsPart all.bytes)
   by_bytes None read e = absurd (cc)
-  by_bytes (Some b) read e = let same : Some b ≡ o = cc in subst (λ (x : Option (List ℕ)). IfSome x (IsPart all.bytes)) same (string-part all p b lies read)
+  by_bytes (Some b) read e = let same : Some b ≡ o = cc in subst (λ (x : Option (List ℕ)). IfSome x (IsPart all.bytes)) same (string-part all p b stands_in read)
 
   by_null : (n : Bool) → (if n then Some None else option_map (λ (x : List ℕ). Some x) (bytes_in p)) ≡ Some o → IfSome o (IsPart all.bytes)
   by_null true e = let same : None ≡ o = cc in subst (λ (x : Option (List ℕ)). IfSome x (IsPart all.bytes)) same tt
@@ -120,14 +120,14 @@ first-part all (p ∷ ps) b lie e = go (list_all is_bytes ps) e where
   go false e = absurd (cc)
 
 certificate-part : (all p : Part) (b : List ℕ) → LiesIn all p → first_certificate p ≡ Some b → IsPart all.bytes b
-certificate-part all p b lies e = by_bytes (bytes_in p) refl e where
+certificate-part all p b stands_in e = by_bytes (bytes_in p) refl e where
   by_items : (o : Option (List Part)) → items_in p ≡ o → first_of o ≡ Some b → IsPart all.bytes b
   by_items None is e = absurd (cc)
-  by_items (Some parts) is e = part-within all.bytes p.bytes b (lies-part all p lies) (first-part p parts b (items-lie p parts is) e)
+  by_items (Some parts) is e = part-within all.bytes p.bytes b (lies-part all p stands_in) (first-part p parts b (items-lie p parts is) e)
 
   by_bytes : (o : Option (List ℕ)) → bytes_in p ≡ o → bytes_or o (first_of (items_in p)) ≡ Some b → IsPart all.bytes b
   by_bytes None is e = by_items (items_in p) refl e
-  by_bytes (Some c) is e = let same : c ≡ b = cc in string-part all p b lies (is ∙ ap (λ (x : List ℕ). Some x) same)
+  by_bytes (Some c) is e = let same : c ≡ b = cc in string-part all p b stands_in (is ∙ ap (λ (x : List ℕ). Some x) same)
 
 chain-some : (map : Part) (b : List ℕ) → chain_in map ≡ Some b → IsPart map.bytes b
 unfolding labelled

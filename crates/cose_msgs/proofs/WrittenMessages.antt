@@ -13,7 +13,7 @@ use Rattle.cbor_maps.proofs.LabelledMaps.{IsLabelled, under-label, no-label, pie
 use Rattle.cose_msgs.specs.Headers.{has_label, label_in, are_distinct, has_distinct_labels, protected_map, has_algorithm, chain_in}
 use Rattle.cose_msgs.specs.Message.{bytes_or_null, sign1, mac0}
 use Rattle.std.specs.Borrow.{Bor}
-use Rattle.cose_msgs.specs.MessageView.{content}
+use Rattle.mdoc_outside.specs.Borrowed.{content}
 use Rattle.cose_msgs.specs.Written.{es256, hmac256, chain_map, payload_bytes, sign1_bytes, mac0_bytes, IsReadAs}
 use Rattle.cose_msgs.proofs.WrittenKeys.{leaf}
 

@@ -2,19 +2,13 @@
 -- says, or the first check that fails.
 use Rattle.std.specs.Prelude.{ℕ, ◌==◌, Bool, false, not, pos, negsuc, List, Option, Some, None, is_some, option_and_then, Result, Ok, Err}
 use Rattle.mdoc_outside.specs.ResultSteps.{◌>>=◌, or_fault}
-use Rattle.cbor_view.specs.declared.doubled.Doubled as views
 use Rattle.cbor_view.specs.Parts.{Part, uint_in, bytes_in, boolean_in}
 use Rattle.cbor_maps.specs.Labels.{labelled}
-use Rattle.cbor_maps.specs.Reading.{map_in}
+use Rattle.cbor_maps.specs.Reading.{map_in, once}
 use Rattle.key_device.specs.declared.point.Point.{Point}
 use Rattle.cose_msgs.specs.declared.key_fault.KeyFault.{KeyFault}
 use Rattle.cose_msgs.specs.declared.key_fault.KeyFault.TheVariants.{NotMap, Doubled, Kind, Curve, Compressed, Coordinate}
 use Rattle.cose_msgs.specs.Steps.{check, of_length}
-
--- what is under a label that may be there once
-abbrev pub once : {A : Type 0} → Result A views.Doubled → Result A KeyFault
-once (Ok found) = Ok found
-once (Err twice) = Err Doubled
 
 -- whether it is that unsigned number, and whether it is a truth value
 abbrev pub is_number : ℕ → Option ℕ → Bool
@@ -33,10 +27,10 @@ coordinate found = or_fault Coordinate (of_length 32 (option_and_then bytes_in f
 -- the map: label 1 is the kind of the key, -1 its curve, -2 and -3 the coordinates x and y
 abbrev pub key_of_map : Part → Result Point KeyFault
 key_of_map map = do
-  kind ← once (labelled map (pos 1))
-  curve ← once (labelled map (negsuc 0))
-  first ← once (labelled map (negsuc 1))
-  second ← once (labelled map (negsuc 2))
+  kind ← once Doubled (labelled map (pos 1))
+  curve ← once Doubled (labelled map (negsuc 0))
+  first ← once Doubled (labelled map (negsuc 1))
+  second ← once Doubled (labelled map (negsuc 2))
   of_kind ← check Kind (is_uint 2 kind)
   on_curve ← check Curve (is_uint 1 curve)
   uncompressed ← check Compressed (not (is_boolean second))

@@ -1,15 +1,12 @@
 -- What contracts see of a message that was read.
 use Rattle.std.specs.Prelude.{ℕ, List, option_map, IfSome}
-use Rattle.std.specs.Borrow.{Bor}
+use Rattle.mdoc_outside.specs.Borrowed.{content}
 use Rattle.cbor_view.specs.View.{part}
 use Rattle.cbor_maps.specs.Contents.{IsPart}
 use Rattle.cose_msgs.specs.declared.message.Message as read
 use Rattle.cose_msgs.specs.declared.sign1.Sign1.{Sign1}
 use Rattle.cose_msgs.specs.declared.mac0.Mac0.{Mac0}
 use Rattle.cose_msgs.specs.Message.{Message, Signed, Authenticated}
-
-abbrev pub content : Bor (List ℕ) → List ℕ
-content bytes = bytes.now
 
 abbrev pub message : read.Message → Message
 message m = record { protected = m.protected.now; unprotected = part m.unprotected; payload = option_map content m.payload; last = m.last.now }

@@ -2,9 +2,9 @@
 
 ghost use Rattle.std.specs.Prelude.{◌≡◌, Some, option_map};
 ghost use Rattle.std.specs.List.{list_all};
+ghost use Rattle.mdoc_outside.specs.Borrowed.{content};
 ghost use Rattle.cbor_view.specs.Items.{left};
 ghost use Rattle.cbor_view.specs.View.{part};
-ghost use Rattle.cose_msgs.specs.MessageView.{content};
 ghost use Rattle.cose_msgs.specs.Headers.{chain_in, first_certificate, first_of, is_bytes};
 
 use cbor_view::{Items, Key, View};

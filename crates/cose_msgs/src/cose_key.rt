@@ -1,11 +1,13 @@
 //! A key.
 
 ghost use Rattle.std.specs.Prelude.{◌≡◌, option_map, Some};
+ghost use Rattle.cbor_maps.specs.Reading.{once};
 ghost use Rattle.cbor_view.specs.Parts.{bytes_in};
 ghost use Rattle.cbor_view.specs.Reading.{Gives};
 ghost use Rattle.cbor_view.specs.View.{part};
 ghost use Rattle.cbor_maps.specs.Labels.{labelled};
-ghost use Rattle.cose_msgs.specs.Key.{coordinate, is_boolean, is_uint, key_of, key_of_map, once};
+ghost use Rattle.cose_msgs.specs.declared.key_fault.KeyFault.TheVariants.{Doubled};
+ghost use Rattle.cose_msgs.specs.Key.{coordinate, is_boolean, is_uint, key_of, key_of_map};
 ghost use Rattle.cose_msgs.specs.Steps.{of_length};
 
 use crate::KeyFault;
@@ -72,7 +74,7 @@ impl CoseKey {
 /// What is under a label that may be there once.
 #[tactic(auto, unfolding(cbor_maps::specs::Labels::labelled))]
 fn once(map: View<'_>, label: i64) -> Result<Option<View<'_>>, KeyFault>
-    ensures { Gives (option_map part) result (once (labelled (part map.entry) label)) }
+    ensures { Gives (option_map part) result (once Doubled (labelled (part map.entry) label)) }
 {
     match map.entry(Key::Int(label)) {
         Ok(found) => Ok(found),

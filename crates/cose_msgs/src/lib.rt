@@ -35,4 +35,4 @@ pub use structures::{mac_bytes, signed_bytes};
 pub use transcript::{
     device_auth_bytes, reader_auth_bytes, write_transcript, write_transcript_bytes,
 };
-pub use written::{write_key, write_mac0, write_sign1};
+pub use written::{PROTECTED_ES256, PROTECTED_HMAC_256, write_key, write_mac0, write_sign1};

@@ -1,10 +1,11 @@
 //! A message authentication code.
 
 ghost use Rattle.std.specs.Prelude.{◌≡◌, IfOk, option_map};
+ghost use Rattle.mdoc_outside.specs.Borrowed.{content};
 ghost use Rattle.cbor_view.specs.Reading.{Gives};
 ghost use Rattle.cbor_view.specs.View.{part};
 ghost use Rattle.cose_msgs.specs.Message.{mac0};
-ghost use Rattle.cose_msgs.specs.MessageView.{content, authenticated, AreAuthenticated};
+ghost use Rattle.cose_msgs.specs.MessageView.{authenticated, AreAuthenticated};
 
 use crate::CoseFault;
 use crate::headers::has_algorithm;
@@ -29,7 +30,7 @@ impl<'a> Mac0<'a> {
     /// The code that an item is; tag 17 is ignored.
     pub fn read(v: View<'a>) -> Result<Mac0<'a>, CoseFault>
         ensures exact { Gives authenticated result (mac0 (part v.entry)) }
-        ensures lies { IfOk result (λ m. AreAuthenticated (part v.entry).bytes (authenticated m)) }
+        ensures stands_in { IfOk result (λ m. AreAuthenticated (part v.entry).bytes (authenticated m)) }
     {
         let message = Message::read(v, MAC0)?;
         let header = message.headers()?;

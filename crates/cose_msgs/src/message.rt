@@ -1,12 +1,13 @@
 //! The array that a message is.
 
 ghost use Rattle.std.specs.Prelude.{◌≡◌, Some, IfOk, option_map};
+ghost use Rattle.mdoc_outside.specs.Borrowed.{content};
 ghost use Rattle.cbor_view.specs.Items.{left};
 ghost use Rattle.cbor_view.specs.Parts.{items_in};
 ghost use Rattle.cbor_view.specs.Reading.{Gives};
 ghost use Rattle.cbor_view.specs.View.{part};
 ghost use Rattle.cose_msgs.specs.Message.{bytes_or_null, headers_of, message_of, of_four, of_items, untagged};
-ghost use Rattle.cose_msgs.specs.MessageView.{content, message, HasParts};
+ghost use Rattle.cose_msgs.specs.MessageView.{message, HasParts};
 
 use crate::CoseFault;
 use crate::headers::{has_distinct_labels, protected_map};
@@ -99,7 +100,7 @@ impl<'a> Message<'a> {
     /// The message that an item is, which may be under that tag.
     pub(crate) fn read(item: View<'a>, tag: u64) -> Result<Message<'a>, CoseFault>
         ensures exact { Gives message result (message_of tag (part item.entry)) }
-        ensures lies { IfOk result (λ m. HasParts (part item.entry).bytes (message m)) }
+        ensures stands_in { IfOk result (λ m. HasParts (part item.entry).bytes (message m)) }
     {
         match untagged(item, tag).items() {
             Some(items) => of_items(items),

@@ -1,10 +1,11 @@
 //! A signature of one signer.
 
 ghost use Rattle.std.specs.Prelude.{◌≡◌, IfOk, option_map};
+ghost use Rattle.mdoc_outside.specs.Borrowed.{content};
 ghost use Rattle.cbor_view.specs.Reading.{Gives};
 ghost use Rattle.cbor_view.specs.View.{part};
 ghost use Rattle.cose_msgs.specs.Message.{sign1};
-ghost use Rattle.cose_msgs.specs.MessageView.{content, signed, AreSigned};
+ghost use Rattle.cose_msgs.specs.MessageView.{signed, AreSigned};
 
 use crate::CoseFault;
 use crate::chain::chain_in;
@@ -32,7 +33,7 @@ impl<'a> Sign1<'a> {
     /// The signature that an item is; tag 18 is ignored.
     pub fn read(v: View<'a>) -> Result<Sign1<'a>, CoseFault>
         ensures exact { Gives signed result (sign1 (part v.entry)) }
-        ensures lies { IfOk result (λ s. AreSigned (part v.entry).bytes (signed s)) }
+        ensures stands_in { IfOk result (λ s. AreSigned (part v.entry).bytes (signed s)) }
     {
         let message = Message::read(v, SIGN1)?;
         let header = message.headers()?;

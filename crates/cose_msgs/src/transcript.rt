@@ -10,7 +10,7 @@ use mdoc_outside::{Memory, Octets};
 use std::alloc::Global;
 
 /// Appends encoded CBOR: a string of bytes under tag 24.
-fn put_encoded(out: &mut Build, inner: &[u8]) -> Result<(), Memory>
+fn append_encoded(out: &mut Build, inner: &[u8]) -> Result<(), Memory>
     ensures { OnOk result (out.new ≡ out.old ++ encoded_bytes inner.now) }
 {
     out.tag(ENCODED)?;
@@ -22,7 +22,7 @@ fn encoded(alloc: Global, inner: &[u8]) -> Result<Octets, Memory>
     ensures { IfOk result (λ b. b ≡ encoded_bytes inner.now) }
 {
     let mut out = Build::new(alloc);
-    put_encoded(&mut out, inner)?;
+    append_encoded(&mut out, inner)?;
     Ok(out.finish())
 }
 
@@ -40,8 +40,8 @@ pub fn write_transcript(
 {
     let mut out = Build::new(alloc);
     out.array(3)?;
-    put_encoded(&mut out, engagement)?;
-    put_encoded(&mut out, reader_key)?;
+    append_encoded(&mut out, engagement)?;
+    append_encoded(&mut out, reader_key)?;
     out.append(handover)?;
     Ok(out.finish())
 }
@@ -70,7 +70,7 @@ pub fn device_auth_bytes(
     out.text("DeviceAuthentication")?;
     out.append(transcript)?;
     out.text(doc_type)?;
-    put_encoded(&mut out, namespaces)?;
+    append_encoded(&mut out, namespaces)?;
     encoded(alloc, out.finish().as_slice())
 }
 

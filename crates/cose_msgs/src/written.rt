@@ -1,9 +1,9 @@
 //! Writing of keys and messages.
 
 ghost use Rattle.std.specs.Prelude.{◌≡◌, ◌++◌, OnErr, IfOk, OnOk, IfSome, ◌<◌, ◌^◌, length, option_map, None, Ok};
+ghost use Rattle.mdoc_outside.specs.Borrowed.{content};
 ghost use Rattle.cose_msgs.specs.Key.{key_of};
 ghost use Rattle.cose_msgs.specs.Message.{mac0, sign1};
-ghost use Rattle.cose_msgs.specs.MessageView.{content};
 ghost use Rattle.cose_msgs.specs.Written.{IsReadAs, chain_map, es256, hmac256, key_bytes, mac0_bytes, payload_bytes, sign1_bytes};
 
 use cbor_maps::MapBuild;
@@ -13,10 +13,10 @@ use mdoc_outside::{Memory, Octets};
 use std::alloc::Global;
 
 /// The protected map {1: -7}, ES256 (RFC 9053, section 2.1).
-const PROTECTED_ES256: [u8; 3] = [0xa1, 0x01, 0x26];
+pub const PROTECTED_ES256: [u8; 3] = [0xa1, 0x01, 0x26];
 
 /// The protected map {1: 5}, HMAC 256/256 (RFC 9053, section 3.1).
-const PROTECTED_HMAC_256: [u8; 3] = [0xa1, 0x01, 0x05];
+pub const PROTECTED_HMAC_256: [u8; 3] = [0xa1, 0x01, 0x05];
 
 /// The label of a chain of certificates (RFC 9360, section 2).
 const CHAIN: i64 = 33;
@@ -54,7 +54,7 @@ fn write_chain(alloc: Global, chain: Option<&[u8]>) -> Result<Octets, Memory>
 }
 
 /// Appends a payload, or null where it is detached.
-fn put_payload(out: &mut Build, payload: Option<&[u8]>) -> Result<(), Memory>
+fn append_payload(out: &mut Build, payload: Option<&[u8]>) -> Result<(), Memory>
     ensures ok { OnOk result (out.new ≡ out.old ++ payload_bytes (option_map content payload.entry)) }
     ensures short { OnOk result (IfSome payload.entry (λ b. length b.now < 2 ^ 32)) }
     ensures err { OnErr result (out.new ≡ out.old) }
@@ -98,7 +98,7 @@ pub fn write_sign1(
     out.array(4)?;
     out.bytes(&PROTECTED_ES256)?;
     out.append(unprotected.as_slice())?;
-    put_payload(&mut out, payload)?;
+    append_payload(&mut out, payload)?;
     out.bytes(signature)?;
     Ok(out.finish())
 }

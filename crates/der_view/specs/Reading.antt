@@ -32,6 +32,10 @@ abbrev pub four_at : List ℕ → Result (ℕ × List ℕ) DerKind
 four_at (a ∷ (b ∷ (c ∷ (d ∷ rest)))) = Ok (((a * 2 ^ 8 + b) * 2 ^ 8 + c) * 2 ^ 8 + d, rest)
 four_at _ = Err Short
 
+-- in how many bytes it is, by that first byte
+abbrev pub digit_count : ℕ → ℕ
+digit_count first = if first == 0x81 then 1 else (if first == 0x82 then 2 else (if first == 0x83 then 3 else 4))
+
 -- the length by the first byte of its long form, which is 0x81 to 0x84
 abbrev pub digits_at : ℕ → List ℕ → Result (ℕ × List ℕ) DerKind
 digits_at first bytes = if first == 0x81 then one_at bytes else (if first == 0x82 then two_at bytes else (if first == 0x83 then three_at bytes else four_at bytes))

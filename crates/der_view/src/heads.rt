@@ -1,9 +1,10 @@
 //! The tag and the length of an element (X.690, 8.1.2 and 8.1.3), and its body.
 
 ghost use Rattle.std.specs.Prelude.{◌≡◌};
-ghost use Rattle.der_view.specs.Reading.{Gives, one_at, two_at, three_at, four_at, digits_at, is_padded, long_at, length_at, body_at, first_at};
+ghost use Rattle.der_view.specs.Reading.{Gives, digit_count, digits_at, is_padded, long_at, length_at, body_at, first_at};
 
 use crate::der_kind::DerKind;
+use byteorder::{BigEndian, ByteOrder};
 
 /// The element at the front of bytes, and what follows it.
 #[derive(Clone, Copy)]
@@ -70,57 +71,27 @@ fn starts_padded(first: u8, digits: &[u8]) -> bool
     }
 }
 
+/// In how many bytes the digits of a length are, by its first byte.
+fn digit_count(first: u8) -> usize
+    ensures { result ≡ digit_count first }
+{
+    match first {
+        0x81 => 1,
+        0x82 => 2,
+        0x83 => 3,
+        _ => 4,
+    }
+}
+
 /// The digits of the length, in so many bytes as its first byte says.
+#[tactic(auto, using(crate::proofs::Digits::digits_read, crate::proofs::Digits::digits_short, crate::proofs::Digits::at_least_one, crate::proofs::Digits::at_most_four))]
 fn read_digits(first: u8, bytes: &[u8]) -> Result<(usize, &[u8]), DerKind>
     ensures { Gives (λ x. (x.0, x.1.now)) result (digits_at first bytes.now) }
 {
-    match first {
-        0x81 => read_one(bytes),
-        0x82 => read_two(bytes),
-        0x83 => read_three(bytes),
-        _ => read_four(bytes),
+    let count = digit_count(first);
+    if bytes.len() < count {
+        return Err(DerKind::Short);
     }
-}
-
-fn read_one(bytes: &[u8]) -> Result<(usize, &[u8]), DerKind>
-    ensures { Gives (λ x. (x.0, x.1.now)) result (one_at bytes.now) }
-{
-    match bytes {
-        [a, rest @ ..] => Ok((usize::from(*a), rest)),
-        _ => Err(DerKind::Short),
-    }
-}
-
-fn read_two(bytes: &[u8]) -> Result<(usize, &[u8]), DerKind>
-    ensures { Gives (λ x. (x.0, x.1.now)) result (two_at bytes.now) }
-{
-    match bytes {
-        [a, b, rest @ ..] => Ok((usize::from(*a) * 0x100 + usize::from(*b), rest)),
-        _ => Err(DerKind::Short),
-    }
-}
-
-fn read_three(bytes: &[u8]) -> Result<(usize, &[u8]), DerKind>
-    ensures { Gives (λ x. (x.0, x.1.now)) result (three_at bytes.now) }
-{
-    match bytes {
-        [a, b, c, rest @ ..] => {
-            let high = usize::from(*a) * 0x100 + usize::from(*b);
-            Ok((high * 0x100 + usize::from(*c), rest))
-        }
-        _ => Err(DerKind::Short),
-    }
-}
-
-fn read_four(bytes: &[u8]) -> Result<(usize, &[u8]), DerKind>
-    ensures { Gives (λ x. (x.0, x.1.now)) result (four_at bytes.now) }
-{
-    match bytes {
-        [a, b, c, d, rest @ ..] => {
-            let high = usize::from(*a) * 0x100 + usize::from(*b);
-            let middle = high * 0x100 + usize::from(*c);
-            Ok((middle * 0x100 + usize::from(*d), rest))
-        }
-        _ => Err(DerKind::Short),
-    }
+    let (digits, rest) = bytes.split_at(count);
+    Ok((BigEndian::read_uint(digits, count) as usize, rest))
 }

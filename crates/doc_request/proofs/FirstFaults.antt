@@ -4,6 +4,7 @@ use Rattle.std.specs.Prelude.{nat_le}
 use Rattle.std.specs.List.{cons_option}
 use Rattle.std.proofs.lemmas.Bool.{leb-true}
 use Rattle.mdoc_outside.specs.declared.key_name.KeyName.TheVariants as keys
+use Rattle.mdoc_outside.specs.OptionSteps.{unless}
 use Rattle.cbor_view.specs.Parts.{Part, items_in, text_in}
 use Rattle.cbor_view.specs.Reading.{Gives}
 use Rattle.cbor_maps.specs.declared.map_fault.MapFault.{MapFault}
@@ -12,7 +13,7 @@ use Rattle.cbor_maps.specs.Reading.{field}
 use Rattle.doc_request.specs.declared.request_fault.RequestFault.{RequestFault}
 use Rattle.doc_request.specs.declared.request_fault.RequestFault.TheVariants.{Count}
 use Rattle.doc_request.specs.Asked.{Document, document, documents, document_fault, first_fault, of_documents, of_version, request_fault}
-use Rattle.doc_request.specs.Checks.{rank, sooner, unless, of_field}
+use Rattle.doc_request.specs.Checks.{rank, earlier, of_field}
 use Rattle.doc_request.specs.Spaces.{is_count}
 
 le-trans : (a b c : ℕ) → nat_le a b ≡ true → nat_le b c ≡ true → nat_le a c ≡ true
@@ -22,28 +23,28 @@ le-not : (a b c : ℕ) → nat_le a b ≡ false → nat_le b c ≡ false → nat
 le-not a b c one other = grind arith
 
 three : (f g h : RequestFault) (fg gh fh : Bool) → nat_le (rank f) (rank g) ≡ fg → nat_le (rank g) (rank h) ≡ gh → nat_le (rank f) (rank h) ≡ fh →
-    sooner (cond fg (Some f) (Some g)) (Some h) ≡ sooner (Some f) (cond gh (Some g) (Some h))
+    earlier (cond fg (Some f) (Some g)) (Some h) ≡ earlier (Some f) (cond gh (Some g) (Some h))
 three f g h true true fh efg egh efh = rw (efg, le-trans (rank f) (rank g) (rank h) efg egh) refl
 three f g h true false fh efg egh efh = refl
 three f g h false true fh efg egh efh = rw (efg, egh) refl
 three f g h false false fh efg egh efh = rw (egh, le-not (rank f) (rank g) (rank h) efg egh) refl
 
-pub sooner-assoc : (a b c : Option RequestFault) → sooner (sooner a b) c ≡ sooner a (sooner b c)
-sooner-assoc None b c = refl
-sooner-assoc (Some f) None c = refl
-sooner-assoc (Some f) (Some g) None = alone (nat_le (rank f) (rank g)) where
-  alone : (b : Bool) → sooner (cond b (Some f) (Some g)) None ≡ cond b (Some f) (Some g)
+pub earlier-assoc : (a b c : Option RequestFault) → earlier (earlier a b) c ≡ earlier a (earlier b c)
+earlier-assoc None b c = refl
+earlier-assoc (Some f) None c = refl
+earlier-assoc (Some f) (Some g) None = alone (nat_le (rank f) (rank g)) where
+  alone : (b : Bool) → earlier (cond b (Some f) (Some g)) None ≡ cond b (Some f) (Some g)
   alone true = refl
   alone false = refl
-sooner-assoc (Some f) (Some g) (Some h) = three f g h (nat_le (rank f) (rank g)) (nat_le (rank g) (rank h)) (nat_le (rank f) (rank h)) refl refl refl
+earlier-assoc (Some f) (Some g) (Some h) = three f g h (nat_le (rank f) (rank g)) (nat_le (rank g) (rank h)) (nat_le (rank f) (rank h)) refl refl refl
 
 -- one more
 pub one-more : (found : Option RequestFault) (request : Part) (requests : List Part) →
-    sooner (sooner found (document_fault request)) (first_fault requests) ≡ sooner found (first_fault (request ∷ requests))
-one-more found request requests = sooner-assoc found (document_fault request) (first_fault requests)
+    earlier (earlier found (document_fault request)) (first_fault requests) ≡ earlier found (first_fault (request ∷ requests))
+one-more found request requests = earlier-assoc found (document_fault request) (first_fault requests)
 
 -- where nothing is wrong, nothing is wrong with either
-pub neither : (a b : Option RequestFault) → sooner a b ≡ None → (a ≡ None) × (b ≡ None)
+pub neither : (a b : Option RequestFault) → earlier a b ≡ None → (a ≡ None) × (b ≡ None)
 neither None b e = (refl, e)
 neither (Some f) None e = absurd cc
 neither (Some f) (Some g) e = either (nat_le (rank f) (rank g)) e where
@@ -58,11 +59,11 @@ of_field-gives view (Err (maps.Field name)) defined gives = ap of_field (sym giv
 of_field-gives view (Err (maps.Doubled name)) defined gives = ap of_field (sym gives)
 
 -- three checks, and four
-pub three_checks : (r s a b c x y z : Option RequestFault) → r ≡ sooner a s → s ≡ sooner b c → a ≡ x → b ≡ y → c ≡ z → r ≡ sooner x (sooner y z)
+pub three_checks : (r s a b c x y z : Option RequestFault) → r ≡ earlier a s → s ≡ earlier b c → a ≡ x → b ≡ y → c ≡ z → r ≡ earlier x (earlier y z)
 three_checks r s a b c x y z first second one two three = rw (first, second, one, two, three) refl
 
-pub four_checks : (r s t a b c d w x y z : Option RequestFault) → r ≡ sooner a s → s ≡ sooner b t → t ≡ sooner c d →
-    a ≡ w → b ≡ x → c ≡ y → d ≡ z → r ≡ sooner w (sooner x (sooner y z))
+pub four_checks : (r s t a b c d w x y z : Option RequestFault) → r ≡ earlier a s → s ≡ earlier b t → t ≡ earlier c d →
+    a ≡ w → b ≡ x → c ≡ y → d ≡ z → r ≡ earlier w (earlier x (earlier y z))
 four_checks r s t a b c d w x y z first second third one two three four = rw (first, second, third, one, two, three, four) refl
 
 -- where nothing is wrong there are documents, and few

@@ -155,9 +155,9 @@ sorted-ascends xs sorted = ascending xs (λ i j d le h. sorted_far (λ x y. is_l
 tied : (x y : List ℕ) → lt x y ≡ false → lt y x ≡ false → bytes_eq y x ≡ true
 tied x y a b = go (slice_cmp nat_cmp y x) refl (nat_list_cmp_total.antisymm x y) b where
   go : (o : Ordering) → slice_cmp nat_cmp y x ≡ o → slice_cmp nat_cmp x y ≡ ordering_reverse (slice_cmp nat_cmp y x) → is_lt (slice_cmp nat_cmp y x) ≡ false → bytes_eq y x ≡ true
-  go Less e turned below = absurd (let t : is_lt Less ≡ false = subst (λ (o : Ordering). is_lt o ≡ false) e below in cc)
-  go Equal e turned below = sym (is_eq-slice_cmp y x) ∙ ap is_eq e
-  go Greater e turned below = absurd (let t : is_lt Less ≡ false = subst (λ (o : Ordering). is_lt o ≡ false) (turned ∙ ap ordering_reverse e) a in cc)
+  go Less e mapped below = absurd (let t : is_lt Less ≡ false = subst (λ (o : Ordering). is_lt o ≡ false) e below in cc)
+  go Equal e mapped below = sym (is_eq-slice_cmp y x) ∙ ap is_eq e
+  go Greater e mapped below = absurd (let t : is_lt Less ≡ false = subst (λ (o : Ordering). is_lt o ≡ false) (mapped ∙ ap ordering_reverse e) a in cc)
 
 none-later : (x y : List ℕ) (zs : Texts) → lt y x ≡ false → AllByRecursion (λ z. lt z y ≡ false) zs → bytes_eq y x ≡ false → list_any (is x) zs ≡ false
 none-later x y [] low all other = refl
@@ -166,8 +166,8 @@ none-later x y (z ∷ zs) low all other = go (none-later x y zs low all.1 other)
   go later true e = let equal = tied x y (subst (λ (t : List ℕ). lt t y ≡ false) (same z x e) all.0) low in absurd (cc)
   go later false e = later
 
-turned : (a b : List ℕ) → bytes_eq a b ≡ bytes_eq b a
-turned a b = go (bytes_eq a b) (bytes_eq b a) refl refl where
+mapped : (a b : List ℕ) → bytes_eq a b ≡ bytes_eq b a
+mapped a b = go (bytes_eq a b) (bytes_eq b a) refl refl where
   go : (x y : Bool) → bytes_eq a b ≡ x → bytes_eq b a ≡ y → x ≡ y
   go true true e f = refl
   go false false e f = refl
@@ -176,7 +176,7 @@ turned a b = go (bytes_eq a b) (bytes_eq b a) refl refl where
 
 apart-from : (x : List ℕ) (xs : Texts) → Ascends (x ∷ xs) → are_apart_from (Some x) xs ≡ are_once (x ∷ xs)
 apart-from x [] up = refl
-apart-from x (y ∷ ys) up = rw (turned x y) (go (apart-from y ys up.1) (bytes_eq y x) refl) where
+apart-from x (y ∷ ys) up = rw (mapped x y) (go (apart-from y ys up.1) (bytes_eq y x) refl) where
   go : are_apart_from (Some y) ys ≡ are_once (y ∷ ys) → (b : Bool) → bytes_eq y x ≡ b → (not b && are_apart_from (Some y) ys) ≡ (not (b || list_any (is x) ys) && are_once (y ∷ ys))
   go later true e = refl
   go later false e = rw (none-later x y ys up.0.0 up.1.0 e) later

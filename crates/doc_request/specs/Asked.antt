@@ -3,7 +3,7 @@
 use Rattle.std.specs.Prelude.{ℕ, ◌+◌, ◌==◌, ◌&&◌, Bool, false, List, [], ◌∷◌, ◌++◌, map, filter_map, Option, Some, None, Result, Ok, Err, unwrap_or}
 use Rattle.std.specs.Result.{result_ok}
 use Rattle.mdoc_outside.specs.declared.key_name.KeyName.TheVariants as keys
-use Rattle.mdoc_outside.specs.OptionSteps.{◌>>=◌}
+use Rattle.mdoc_outside.specs.OptionSteps.{◌>>=◌, unless}
 use Rattle.cbor_view.specs.declared.cbor_fault.CborFault.{CborFault}
 use Rattle.cbor_view.specs.Parts.{Part, cbor, items_in, text_in}
 use Rattle.cbor_maps.specs.declared.map_fault.MapFault.{MapFault}
@@ -12,7 +12,7 @@ use Rattle.consent.specs.Wish.{Wanted}
 use Rattle.doc_request.specs.declared.request_fault.RequestFault.{RequestFault}
 use Rattle.doc_request.specs.declared.request_fault.RequestFault.TheVariants.{Version, Inner, Count}
 use Rattle.doc_request.specs.declared.wish_draft.WishDraft.{WishDraft}
-use Rattle.doc_request.specs.Checks.{sooner, unless, of_field}
+use Rattle.doc_request.specs.Checks.{earlier, of_field}
 use Rattle.doc_request.specs.Spaces.{entries, elements, spaces_fault, is_count}
 
 -- A document that is asked for: its type, the items request as it was received, with its tag, the reader's
@@ -50,9 +50,9 @@ of_spaces (Err fault) = None
 
 abbrev pub items_fault : Part → Option RequestFault
 items_fault request =
-    sooner (of_field (field keys.DocType text_in request))
-    (sooner (of_field (field keys.NameSpaces map_in request))
-    (sooner (of_field (optional_field keys.RequestInfo any_in request))
+    earlier (of_field (field keys.DocType text_in request))
+    (earlier (of_field (field keys.NameSpaces map_in request))
+    (earlier (of_field (optional_field keys.RequestInfo any_in request))
     (of_spaces (field keys.NameSpaces map_in request))))
 
 -- what is wrong with the item that its bytes spell
@@ -67,17 +67,17 @@ of_encoded (Err fault) = None
 -- what is wrong with a document's request
 abbrev pub document_fault : Part → Option RequestFault
 document_fault request =
-    sooner (of_field (field keys.ItemsRequest encoded_in request))
-    (sooner (of_field (optional_field keys.ReaderAuth any_in request))
+    earlier (of_field (field keys.ItemsRequest encoded_in request))
+    (earlier (of_field (optional_field keys.ReaderAuth any_in request))
     (of_encoded (field keys.ItemsRequest encoded_in request)))
 
 -- what is wrong with one of them
 abbrev pub first_fault : List Part → Option RequestFault
 first_fault [] = None
-first_fault (request ∷ requests) = sooner (document_fault request) (first_fault requests)
+first_fault (request ∷ requests) = earlier (document_fault request) (first_fault requests)
 
 abbrev pub of_documents : Result (List Part) MapFault → Option RequestFault
-of_documents (Ok requests) = sooner (unless (is_count 16 requests) Count) (first_fault requests)
+of_documents (Ok requests) = earlier (unless (is_count 16 requests) Count) (first_fault requests)
 of_documents (Err fault) = None
 
 -- a version that begins with `1.`
@@ -93,9 +93,9 @@ of_version (Err fault) = None
 -- place.
 abbrev pub request_fault : Part → Option RequestFault
 request_fault item =
-    sooner (of_field (field keys.Version text_in item))
-    (sooner (of_field (field keys.DocRequests items_in item))
-    (sooner (of_version (field keys.Version text_in item))
+    earlier (of_field (field keys.Version text_in item))
+    (earlier (of_field (field keys.DocRequests items_in item))
+    (earlier (of_version (field keys.Version text_in item))
     (of_documents (field keys.DocRequests items_in item))))
 
 -- the documents of a request with which nothing is wrong

@@ -13,15 +13,10 @@ rank (Inner fault) = 3
 rank Count = 4
 
 -- the fault whose check comes first, and of one check the first
-abbrev pub sooner : Option RequestFault → Option RequestFault → Option RequestFault
-sooner None other = other
-sooner (Some fault) None = Some fault
-sooner (Some fault) (Some other) = if nat_le (rank fault) (rank other) then Some fault else Some other
-
--- a fault where a test fails
-abbrev pub unless : Bool → RequestFault → Option RequestFault
-unless true fault = None
-unless false fault = Some fault
+abbrev pub earlier : Option RequestFault → Option RequestFault → Option RequestFault
+earlier None other = other
+earlier (Some fault) None = Some fault
+earlier (Some fault) (Some other) = if nat_le (rank fault) (rank other) then Some fault else Some other
 
 -- what is wrong with a field of a map
 abbrev pub of_field : {A : Type 0} → Result A MapFault → Option RequestFault

@@ -1,7 +1,8 @@
 //! The checks of a request in their order.
 
 ghost use Rattle.std.specs.Prelude.{◌≡◌};
-ghost use Rattle.doc_request.specs.Checks.{rank, sooner, unless, of_field};
+ghost use Rattle.mdoc_outside.specs.OptionSteps.{unless};
+ghost use Rattle.doc_request.specs.Checks.{rank, earlier, of_field};
 
 use crate::RequestFault;
 use cbor_maps::MapFault;
@@ -20,11 +21,11 @@ fn rank(fault: &RequestFault) -> u8
 }
 
 /// The fault whose check comes first, and of one check the first.
-pub(crate) fn sooner(
+pub(crate) fn earlier(
     fault: Option<RequestFault>,
     other: Option<RequestFault>,
 ) -> Option<RequestFault>
-    ensures { result ≡ sooner fault other }
+    ensures { result ≡ earlier fault other }
 {
     match (fault, other) {
         (Some(fault), Some(other)) if rank(&fault) <= rank(&other) => Some(fault),

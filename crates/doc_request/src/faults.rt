@@ -11,14 +11,11 @@ ghost use Rattle.doc_request.specs.Asked.{document_fault, first_fault, is_versio
 ghost use Rattle.doc_request.specs.Spaces.{entries, is_count, spaces_fault};
 
 use crate::RequestFault;
-use crate::checks::{of_field, sooner, unless};
+use crate::checks::{earlier, of_field, unless};
 use crate::spaces::spaces_fault;
 use cbor_maps::NamedMap;
 use cbor_view::{Items, View};
-use mdoc_outside::KeyName;
-
-/// The most documents of a request.
-const MOST_DOCUMENTS: usize = 16;
+use mdoc_outside::{KeyName, MOST_DOCUMENTS};
 
 /// What is wrong with a request.
 pub(crate) fn request_fault(item: &View<'_>) -> Option<RequestFault>
@@ -28,9 +25,9 @@ pub(crate) fn request_fault(item: &View<'_>) -> Option<RequestFault>
     let version = of_field(&map.text(KeyName::Version));
     let requests = of_field(&map.items(KeyName::DocRequests));
     let documents = documents_fault(&map);
-    sooner(
+    earlier(
         version,
-        sooner(requests, sooner(version_fault(&map), documents)),
+        earlier(requests, earlier(version_fault(&map), documents)),
     )
 }
 
@@ -59,7 +56,7 @@ fn documents_fault(map: &NamedMap<'_>) -> Option<RequestFault>
     ensures { result ≡ of_documents (field keys.DocRequests items_in (whole_map map.now)) }
 {
     match map.items(KeyName::DocRequests) {
-        Ok(requests) => sooner(
+        Ok(requests) => earlier(
             unless(is_count(requests), RequestFault::Count),
             first_fault(requests),
         ),
@@ -87,7 +84,7 @@ fn first_fault(requests: Items<'_>) -> Option<RequestFault>
 {
     let mut found = None;
     for request in requests {
-        found = sooner(found, document_fault(&request));
+        found = earlier(found, document_fault(&request));
     }
     found
 }
@@ -99,7 +96,7 @@ fn document_fault(request: &View<'_>) -> Option<RequestFault>
     let map = NamedMap::new(request, &[KeyName::ItemsRequest, KeyName::ReaderAuth]);
     let inside = of_field(&map.encoded(KeyName::ItemsRequest));
     let reader_auth = of_field(&map.optional_item(KeyName::ReaderAuth));
-    sooner(inside, sooner(reader_auth, inside_fault(&map)))
+    earlier(inside, earlier(reader_auth, inside_fault(&map)))
 }
 
 /// What is wrong inside the items request of a document.
@@ -133,9 +130,9 @@ fn items_fault(request: &View<'_>) -> Option<RequestFault>
     let doc_type = of_field(&map.text(KeyName::DocType));
     let spaces = of_field(&map.map(KeyName::NameSpaces));
     let info = of_field(&map.optional_item(KeyName::RequestInfo));
-    sooner(
+    earlier(
         doc_type,
-        sooner(spaces, sooner(info, namespaces_fault(&map))),
+        earlier(spaces, earlier(info, namespaces_fault(&map))),
     )
 }
 

@@ -1,85 +1,23 @@
 //! Who asks for a document.
 
-ghost use Rattle.std.specs.Prelude.{◌≡◌, option_map};
+ghost use Rattle.std.specs.Prelude.{option_map};
 ghost use Rattle.mdoc_outside.specs.Faults.{HasCause};
-ghost use Rattle.cert_view.specs.Cert.{fields};
+ghost use Rattle.key_device.specs.Ends.{came_to};
 ghost use Rattle.key_device.specs.Gave.{Gave};
 ghost use Rattle.key_device.specs.Plan.{Follows};
 ghost use Rattle.key_device.specs.Recording.{inner, talk};
 ghost use Rattle.key_device.specs.declared.device_fault.DeviceFault.TheVariants.{Failed, Memory};
-ghost use Rattle.doc_request.specs.Known.{are_valid, came_to, confirming_root, is_valid, known, known_as, known_under, reader_signed, root_confirms, signed_under, verified};
+ghost use Rattle.doc_request.specs.Known.{known, known_as, known_under, reader_signed, signed_under};
 ghost use Rattle.doc_request.specs.KnownView.{authentication_seen};
 ghost use Rattle.doc_request.specs.Views.{document_seen};
 
 use crate::DocAsk;
 use crate::authentication::Authentication;
-use cert_view::{Cert, Root, Roots};
+use cert_view::{Root, Roots};
 use cose_msgs::{reader_auth_bytes, signed_bytes};
-use key_device::{DeviceFault, KeyDevice, Point, Recorder};
+use key_device::{DeviceFault, KeyDevice, Recorder, ask_verified};
+use root_trust::{are_valid, confirming_root};
 use std::alloc::Global;
-
-/// One question: whether that is the key's signature of the message.
-#[tactic(auto, using(key_device::proofs::PlanLemmas::exits))]
-fn verified<D: KeyDevice>(
-    key: &Point,
-    message: &[u8],
-    signature: &[u8; 64],
-    device: &mut Recorder<D>,
-) -> Result<bool, DeviceFault>
-    ensures asked { Follows (verified key.now message.now signature.now) (talk device.old) (talk device.new) (came_to (λ yes. yes) result) }
-    ensures gave { Gave D.gives D.unasked D.faults device.old device.new }
-    ensures cause { HasCause Failed Memory (D.faults (inner device.old)) (D.faults (inner device.new)) result }
-{
-    device.verify(key, message, signature)
-}
-
-/// Whether a root confirms a certificate: it is of the issuer's name, and it signed the certificate.
-#[tactic(auto, using(key_device::proofs::PlanLemmas::exits, key_device::proofs::GaveLemmas::gave_exits))]
-fn root_confirms<D: KeyDevice>(
-    cert: &Cert<'_>,
-    root: &Root,
-    device: &mut Recorder<D>,
-) -> Result<bool, DeviceFault>
-    ensures asked { Follows (root_confirms (fields cert.now) root.now) (talk device.old) (talk device.new) (came_to (λ yes. yes) result) }
-    ensures gave { Gave D.gives D.unasked D.faults device.old device.new }
-    ensures cause { HasCause Failed Memory (D.faults (inner device.old)) (D.faults (inner device.new)) result }
-{
-    let own = root.cert();
-    if own.subject() != cert.issuer() {
-        return Ok(false);
-    }
-    let ask = cert.asks(root);
-    verified(&ask.public, ask.message, &ask.signature, device)
-}
-
-/// The first root that confirms a certificate, in the order of the file.
-#[tactic(auto, using(key_device::proofs::PlanStepLemmas::first_exits, key_device::proofs::GaveLemmas::gave_exits), unfolding(crate::specs::Known::confirming_root))]
-fn confirming_root<'r, D: KeyDevice>(
-    cert: &Cert<'_>,
-    roots: &'r [Root],
-    device: &mut Recorder<D>,
-) -> Result<Option<&'r Root>, DeviceFault>
-    ensures asked { Follows (confirming_root (fields cert.now) roots.now) (talk device.old) (talk device.new) (came_to (option_map (λ root. root.now)) result) }
-    ensures gave { Gave D.gives D.unasked D.faults device.old device.new }
-    ensures cause { HasCause Failed Memory (D.faults (inner device.old)) (D.faults (inner device.new)) result }
-{
-    for root in roots {
-        match root_confirms(cert, root, device) {
-            Ok(true) => return Ok(Some(root)),
-            Ok(false) => {}
-            Err(DeviceFault::Failed) => return Err(DeviceFault::Failed),
-            Err(DeviceFault::Memory) => return Err(DeviceFault::Memory),
-        }
-    }
-    Ok(None)
-}
-
-/// Whether a moment lies in the validity of a certificate, both ends of which belong to it.
-fn is_valid(moment: i64, cert: &Cert<'_>) -> bool
-    ensures { result ≡ is_valid moment (fields cert.now) }
-{
-    cert.not_before() <= moment && moment <= cert.not_after()
-}
 
 /// Whether the reader signed what it asks for, in this session.
 #[tactic(auto, using(key_device::proofs::PlanLemmas::exits, key_device::proofs::GaveLemmas::gave_exits))]
@@ -90,13 +28,13 @@ fn reader_signed<D: KeyDevice>(
     items: &[u8],
     device: &mut Recorder<D>,
 ) -> Result<bool, DeviceFault>
-    ensures asked { Follows (reader_signed (authentication_seen own.now) transcript.now items.now) (talk device.old) (talk device.new) (came_to (λ yes. yes) result) }
+    ensures asked { Follows (reader_signed (authentication_seen own.now) transcript.now items.now) (talk device.old) (talk device.new) (came_to Failed (λ yes. yes) result) }
     ensures gave { Gave D.gives D.unasked D.faults device.old device.new }
     ensures cause { HasCause Failed Memory (D.faults (inner device.old)) (D.faults (inner device.new)) result }
 {
     let payload = reader_auth_bytes(alloc, transcript, items)?;
     let message = signed_bytes(alloc, own.signed.protected(), payload.as_slice())?;
-    verified(
+    ask_verified::<_, DeviceFault>(
         own.cert.key(),
         message.as_slice(),
         own.signed.signature(),
@@ -114,7 +52,7 @@ fn signed_under<'r, D: KeyDevice>(
     items: &[u8],
     device: &mut Recorder<D>,
 ) -> Result<Option<&'r str>, DeviceFault>
-    ensures asked { Follows (signed_under (authentication_seen own.now) root.now transcript.now items.now) (talk device.old) (talk device.new) (came_to (option_map (λ name. name.now)) result) }
+    ensures asked { Follows (signed_under (authentication_seen own.now) root.now transcript.now items.now) (talk device.old) (talk device.new) (came_to Failed (option_map (λ name. name.now)) result) }
     ensures gave { Gave D.gives D.unasked D.faults device.old device.new }
     ensures cause { HasCause Failed Memory (D.faults (inner device.old)) (D.faults (inner device.new)) result }
 {
@@ -124,13 +62,6 @@ fn signed_under<'r, D: KeyDevice>(
         Err(DeviceFault::Failed) => Err(DeviceFault::Failed),
         Err(DeviceFault::Memory) => Err(DeviceFault::Memory),
     }
-}
-
-/// Whether a moment lies in the validity of a certificate and of a root.
-fn are_valid(moment: i64, cert: &Cert<'_>, root: &Root) -> bool
-    ensures { result ≡ are_valid moment (fields cert.now) root.now }
-{
-    is_valid(moment, cert) && is_valid(moment, &root.cert())
 }
 
 /// The same, where the moment lies in both validities.
@@ -144,7 +75,7 @@ fn known_under<'r, D: KeyDevice>(
     moment: i64,
     device: &mut Recorder<D>,
 ) -> Result<Option<&'r str>, DeviceFault>
-    ensures asked { Follows (known_under (authentication_seen own.now) transcript.now items.now moment root.now) (talk device.old) (talk device.new) (came_to (option_map (λ name. name.now)) result) }
+    ensures asked { Follows (known_under (authentication_seen own.now) transcript.now items.now moment root.now) (talk device.old) (talk device.new) (came_to Failed (option_map (λ name. name.now)) result) }
     ensures gave { Gave D.gives D.unasked D.faults device.old device.new }
     ensures cause { HasCause Failed Memory (D.faults (inner device.old)) (D.faults (inner device.new)) result }
 {
@@ -165,7 +96,7 @@ fn known_as<'r, D: KeyDevice>(
     moment: i64,
     device: &mut Recorder<D>,
 ) -> Result<Option<&'r str>, DeviceFault>
-    ensures asked { Follows (known_as (authentication_seen own.now) transcript.now items.now readers.now moment) (talk device.old) (talk device.new) (came_to (option_map (λ name. name.now)) result) }
+    ensures asked { Follows (known_as (authentication_seen own.now) transcript.now items.now readers.now moment) (talk device.old) (talk device.new) (came_to Failed (option_map (λ name. name.now)) result) }
     ensures gave { Gave D.gives D.unasked D.faults device.old device.new }
     ensures cause { HasCause Failed Memory (D.faults (inner device.old)) (D.faults (inner device.new)) result }
 {
@@ -189,7 +120,7 @@ pub fn known_reader<'r, D: KeyDevice>(
     moment: i64,
     device: &mut Recorder<D>,
 ) -> Result<Option<&'r str>, DeviceFault>
-    ensures asked { Follows (known (document_seen document.now) transcript.now readers.now moment) (talk device.old) (talk device.new) (came_to (option_map (λ name. name.now)) result) }
+    ensures asked { Follows (known (document_seen document.now) transcript.now readers.now moment) (talk device.old) (talk device.new) (came_to Failed (option_map (λ name. name.now)) result) }
     ensures gave { Gave D.gives D.unasked D.faults device.old device.new }
     ensures cause { HasCause Failed Memory (D.faults (inner device.old)) (D.faults (inner device.new)) result }
 {

@@ -1,10 +1,7 @@
 //! What may be handed to another thread and shared with it.
 
 use crate::{DocAsk, Documents, Request, RequestDraft, RequestFault, Wishes};
-
-fn is_send<T: Send>() {}
-
-fn is_sync<T: Sync>() {}
+use mdoc_outside::{is_send, is_sync};
 
 /// Requests, what is read of them and their faults are Send and Sync.
 pub fn types_are_send_and_sync() {

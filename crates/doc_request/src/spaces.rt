@@ -12,10 +12,7 @@ use crate::RequestFault;
 use crate::elements::Elements;
 use crate::texts::are_distinct;
 use cbor_view::{Pairs, View};
-use mdoc_outside::KeyName;
-
-/// The most elements of a document.
-const MOST_ELEMENTS: usize = 512;
+use mdoc_outside::{KeyName, MOST_WISHES_OF_DOCUMENT};
 
 /// What is wrong with the namespaces of an items request.
 #[tactic(auto, using(crate::proofs::FewNames::few_spaces, crate::proofs::FewNames::few_names))]
@@ -84,7 +81,7 @@ fn is_count(elements: Elements<'_>) -> bool
 {
     let mut count = 0;
     for _element in elements {
-        if count == MOST_ELEMENTS {
+        if count == MOST_WISHES_OF_DOCUMENT {
             return false;
         }
         count += 1;

@@ -7,9 +7,7 @@ ghost use Rattle.doc_request.specs.Texts.{are_apart, key_text};
 
 use arrayvec::ArrayVec;
 use cbor_view::Pairs;
-
-/// The most keys that are looked at.
-const MOST_KEYS: usize = 512;
+use mdoc_outside::MOST_WISHES_OF_DOCUMENT;
 
 /// Whether no text is a key twice. In the order of texts, equal ones follow one another.
 pub(crate) fn are_distinct(entries: Pairs<'_>) -> bool
@@ -22,7 +20,7 @@ pub(crate) fn are_distinct(entries: Pairs<'_>) -> bool
 }
 
 /// The keys that are texts.
-fn texts_of<'a>(entries: Pairs<'a>) -> ArrayVec<&'a str, MOST_KEYS>
+fn texts_of<'a>(entries: Pairs<'a>) -> ArrayVec<&'a str, MOST_WISHES_OF_DOCUMENT>
     requires { length (pairs_left entries) ≤ 512 }
     ensures { map (λ t. t.now) result.items ≡ filter_map key_text (pairs_left entries.entry) }
 {

@@ -8,20 +8,13 @@ ghost use Rattle.doc_request.specs.Written.{AreAuthentications, entry_bytes, doc
 
 use crate::{DocDraft, RequestDraft, WishDraft};
 use cbor_maps::MapBuild;
-use cbor_write::Build;
+use cbor_write::{Build, count_of};
 use mdoc_outside::{KeyName, Memory, Octets};
 use std::alloc::Global;
 use std::str;
 
 /// The version that is written.
 const VERSION: &str = "1.0";
-
-/// A count as a head has it; one that no head has is answered by want of memory.
-fn count_of(count: usize) -> Result<u32, Memory>
-    ensures { IfOk result (λ small. small ≡ count) }
-{
-    u32::try_from(count).map_err(|_| Memory)
-}
 
 /// The text of a name.
 fn text_of(name: &Octets) -> &str

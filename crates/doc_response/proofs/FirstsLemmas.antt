@@ -4,16 +4,16 @@ use Rattle.std.specs.Prelude.{filter}
 use Rattle.std.specs.Str.{bytes_eq}
 use Rattle.std.proofs.lemmas.List.Folds.{list_any-append}
 use Rattle.std.proofs.lemmas.Slice.Eq.{bytes_eq-Decides}
-use Rattle.doc_response.specs.Answered.{has_text, firsts}
+use Rattle.doc_response.specs.Answered.{has_text, distinct_texts}
 use Rattle.doc_response.specs.Namespaces.{added, texts}
 use Rattle.std.specs.Borrow.{Bor}
 
 -- texts that were found, and the first ones of others that weren't
 abbrev pub more : List (List ℕ) → List (List ℕ) → List (List ℕ)
-more found rest = found ++ filter (λ (text : List ℕ). not (has_text text found)) (firsts rest)
+more found rest = found ++ filter (λ (text : List ℕ). not (has_text text found)) (distinct_texts rest)
 
 abbrev others : List ℕ → List (List ℕ) → List (List ℕ)
-others text rest = filter (λ (other : List ℕ). not (bytes_eq text other)) (firsts rest)
+others text rest = filter (λ (other : List ℕ). not (bytes_eq text other)) (distinct_texts rest)
 
 filter-filter : {A : Type 0} (p q : A → Bool) (xs : List A) → filter p (filter q xs) ≡ filter (λ x. q x && p x) xs
 filter-filter p q [] = refl
@@ -43,8 +43,8 @@ more-found : (found rest : List (List ℕ)) (text : List ℕ) → has_text text 
 more-found found rest text has =
     ap (λ (b : Bool). found ++ cond (not b) (text ∷ filter (λ (t : List ℕ). not (has_text t found)) (others text rest)) (filter (λ (t : List ℕ). not (has_text t found)) (others text rest))) has
     ∙ ap (λ (list : List (List ℕ)). found ++ list)
-    (filter-filter (λ (t : List ℕ). not (has_text t found)) (λ (other : List ℕ). not (bytes_eq text other)) (firsts rest)
-    ∙ filter-alike _ _ (firsts rest) (found-alike found text has))
+    (filter-filter (λ (t : List ℕ). not (has_text t found)) (λ (other : List ℕ). not (bytes_eq text other)) (distinct_texts rest)
+    ∙ filter-alike _ _ (distinct_texts rest) (found-alike found text has))
 
 -- a text that wasn't is one of those that were from now on
 new-alike : (found : List (List ℕ)) (text other : List ℕ) →
@@ -61,8 +61,8 @@ more-new : (found rest : List (List ℕ)) (text : List ℕ) → has_text text fo
 more-new found rest text has =
     ap (λ (b : Bool). found ++ cond (not b) (text ∷ filter (λ (t : List ℕ). not (has_text t found)) (others text rest)) (filter (λ (t : List ℕ). not (has_text t found)) (others text rest))) has
     ∙ ap (λ (list : List (List ℕ)). found ++ (text ∷ list))
-    (filter-filter (λ (t : List ℕ). not (has_text t found)) (λ (other : List ℕ). not (bytes_eq text other)) (firsts rest)
-    ∙ filter-alike _ _ (firsts rest) (new-alike found text))
+    (filter-filter (λ (t : List ℕ). not (has_text t found)) (λ (other : List ℕ). not (bytes_eq text other)) (distinct_texts rest)
+    ∙ filter-alike _ _ (distinct_texts rest) (new-alike found text))
     ∙ sym (append_assoc found (text ∷ []) _)
 
 -- one text more
@@ -77,8 +77,8 @@ filter-all [] = refl
 filter-all (x ∷ xs) = rw (filter-all xs) refl
 
 -- before the first text
-pub more-start : (rest : List (List ℕ)) → more [] rest ≡ firsts rest
-more-start rest = filter-all (firsts rest)
+pub more-start : (rest : List (List ℕ)) → more [] rest ≡ distinct_texts rest
+more-start rest = filter-all (distinct_texts rest)
 
 -- the texts from one on: it, and those after it
 pub texts-drop : (list : List (Bor (List ℕ))) (i : ℕ) (d : Bor (List ℕ)) → i < length list →

@@ -4,7 +4,7 @@ use Rattle.std.specs.Prelude.{filter}
 use Rattle.std.specs.List.{AllByRecursion, flat_map}
 use Rattle.std.specs.Str.{bytes_eq}
 use Rattle.cbor_view.specs.Parts.{Part}
-use Rattle.doc_response.specs.Answered.{firsts, grouped, of_namespace}
+use Rattle.doc_response.specs.Answered.{distinct_texts, grouped, of_namespace}
 use Rattle.doc_response.specs.Response.{spread, spread_all}
 use Rattle.doc_response.specs.WrittenReads.{plain_part, spread_group}
 use Rattle.doc_response.proofs.GroupsRead.{part_bytes, plain_group}
@@ -26,15 +26,15 @@ filter-fewer q (x ∷ xs) = let rest = filter-fewer q xs in either (q x) rest wh
   either true rest = omega arith
   either false rest = omega arith
 
-pub firsts-all : (P : List ℕ → Type 0) (texts : List (List ℕ)) → AllByRecursion P texts → AllByRecursion P (firsts texts)
+pub firsts-all : (P : List ℕ → Type 0) (texts : List (List ℕ)) → AllByRecursion P texts → AllByRecursion P (distinct_texts texts)
 firsts-all P [] all = tt
-firsts-all P (text ∷ texts) all = (all.0, filter-all P (λ (other : List ℕ). not (bytes_eq text other)) (firsts texts) (firsts-all P texts all.1))
+firsts-all P (text ∷ texts) all = (all.0, filter-all P (λ (other : List ℕ). not (bytes_eq text other)) (distinct_texts texts) (firsts-all P texts all.1))
 
-pub firsts-fewer : (texts : List (List ℕ)) → length (firsts texts) ≤ length texts
+pub firsts-fewer : (texts : List (List ℕ)) → length (distinct_texts texts) ≤ length texts
 firsts-fewer [] = omega arith
 firsts-fewer (text ∷ texts) =
     let rest = firsts-fewer texts in
-    let some = filter-fewer (λ (other : List ℕ). not (bytes_eq text other)) (firsts texts) in
+    let some = filter-fewer (λ (other : List ℕ). not (bytes_eq text other)) (distinct_texts texts) in
     omega (arith, rest, some)
 
 pub map-all : {A B : Type 0} (P : B → Type 0) (f : A → B) (xs : List A) → AllByRecursion (λ x. P (f x)) xs → AllByRecursion P (map f xs)
@@ -61,7 +61,7 @@ of-fewer ns pairs =
 pub grouped-fewer : (pairs : Pairs) → length (grouped pairs) ≤ length pairs
 grouped-fewer pairs =
     let names = map (λ (pair : List ℕ × List ℕ). pair.0) pairs in
-    let one = map-length (of_namespace pairs) (firsts names) in
+    let one = map-length (of_namespace pairs) (distinct_texts names) in
     let two = firsts-fewer names in
     let three = map-length (λ (pair : List ℕ × List ℕ). pair.0) pairs in
     omega (arith, one, two, three)

@@ -3,7 +3,7 @@ use Rattle.std.proofs.Common.{ℕ, ◌<◌, ◌^◌, List, [], ◌∷◌, length
 use Rattle.std.specs.List.{AllByRecursion, flat_map}
 use Rattle.cbor_view.proofs.WrittenParts.{AllPieces, IsPiece, piece-map}
 use Rattle.cbor_maps.specs.WrittenReads.{SpellsItem}
-use Rattle.doc_response.specs.Answered.{firsts, grouped, items_map, namespace_entry, of_namespace}
+use Rattle.doc_response.specs.Answered.{distinct_texts, grouped, items_map, namespace_entry, of_namespace}
 use Rattle.doc_response.specs.WrittenReads.{AreWritable, IsText, IsWritableItem, ReadsItems, spread_group}
 use Rattle.doc_response.proofs.Grouping.{all-plain, firsts-all, grouped-fewer, map-all, map-length, of-all, of-fewer}
 use Rattle.doc_response.proofs.GroupsRead.{AreGroups, group-pieces, map-read}
@@ -41,7 +41,7 @@ groups-of items are (name ∷ names) all =
 
 pub item-groups : (items : Pairs) → AreWritable items → AreGroups 25 (grouped items)
 item-groups items are =
-    let names = firsts (map (λ (item : List ℕ × List ℕ). item.0) items) in
+    let names = distinct_texts (map (λ (item : List ℕ × List ℕ). item.0) items) in
     let texts = firsts-all IsText (map (λ (item : List ℕ × List ℕ). item.0) items) (map-all IsText (λ (item : List ℕ × List ℕ). item.0) items (names-all items are.each)) in
     groups-of items are names texts
 

@@ -17,9 +17,9 @@ abbrev pub has_text : List ℕ → List (List ℕ) → Bool
 has_text text texts = list_any (λ (other : List ℕ). bytes_eq other text) texts
 
 -- each text at its first place
-abbrev pub firsts : List (List ℕ) → List (List ℕ)
-firsts [] = []
-firsts (text ∷ texts) = text ∷ filter (λ (other : List ℕ). not (bytes_eq text other)) (firsts texts)
+abbrev pub distinct_texts : List (List ℕ) → List (List ℕ)
+distinct_texts [] = []
+distinct_texts (text ∷ texts) = text ∷ filter (λ (other : List ℕ). not (bytes_eq text other)) (distinct_texts texts)
 
 -- what is given with a namespace, in order
 abbrev pub of_namespace : List (List ℕ × List ℕ) → List ℕ → List ℕ × List (List ℕ)
@@ -28,7 +28,7 @@ of_namespace pairs ns =
 
 -- pairs by their namespaces, in the order in which these appear first
 abbrev pub grouped : List (List ℕ × List ℕ) → List (List ℕ × List (List ℕ))
-grouped pairs = map (of_namespace pairs) (firsts (map (λ (pair : List ℕ × List ℕ). pair.0) pairs))
+grouped pairs = map (of_namespace pairs) (distinct_texts (map (λ (pair : List ℕ × List ℕ). pair.0) pairs))
 
 -- the items of a namespace, as they are stored
 abbrev pub namespace_entry : List ℕ × List (List ℕ) → List ℕ × List ℕ

@@ -3,14 +3,11 @@
 ghost use Rattle.std.specs.Prelude.{◌≡◌, IfOk};
 ghost use Rattle.doc_response.specs.DeviceMac.{device_mac, mac_key};
 
-use cose_msgs::{mac_bytes, write_transcript_bytes};
+use cose_msgs::{PROTECTED_HMAC_256, mac_bytes, write_transcript_bytes};
 use hmac_hkdf::{hkdf32, hmac};
 use mdoc_outside::Memory;
 use sha2::{Digest, Sha256};
 use std::alloc::Global;
-
-/// The protected map {1: 5}, HMAC 256/256 (RFC 9053, section 3.1).
-const PROTECTED_HMAC_256: [u8; 3] = [0xa1, 0x01, 0x05];
 
 /// The MAC key (EMacKey; ISO/IEC 18013-5, 9.1.3.5) of the secret on which the device's key and the reader's
 /// ephemeral key agree, and of the bytes of the session transcript.

@@ -1,23 +1,16 @@
 //! Items and errors by their namespaces, as bytes of CBOR.
 
-ghost use Rattle.std.specs.Prelude.{◌≡◌, ◌++◌, length, map, IfOk, OnOk};
+ghost use Rattle.std.specs.Prelude.{◌≡◌, ◌++◌, length, map, OnOk};
 ghost use Rattle.cbor_view.specs.Shortest.{text_bytes};
 ghost use Rattle.doc_response.specs.Answered.{document_error, errors_entry, errors_map, items_map, namespace_entry, of_namespace};
 ghost use Rattle.doc_response.specs.AnsweredView.{element_seen, item_seen};
 ghost use Rattle.doc_response.specs.Namespaces.{count_of_text, entry_bytes, texts};
 
-use crate::namespaces::firsts;
+use crate::namespaces::distinct_texts;
 use crate::{MissingElement, ReleasedItem};
-use cbor_write::Build;
+use cbor_write::{Build, count_of};
 use mdoc_outside::Memory;
 use std::alloc::Global;
-
-/// A count as a head has it; one that no head has is answered by want of memory.
-pub(crate) fn count_of(count: usize) -> Result<u32, Memory>
-    ensures { IfOk result (λ small. small ≡ count) }
-{
-    u32::try_from(count).map_err(|_| Memory)
-}
 
 /// How many of the texts are this one.
 fn count_text(list: &[&str], text: &str) -> usize
@@ -33,7 +26,7 @@ fn count_text(list: &[&str], text: &str) -> usize
 }
 
 /// Appends a namespace with its items, as they are stored.
-fn put_namespace(
+fn append_namespace(
     build: &mut Build,
     items: &[ReleasedItem<'_>],
     ns: &str,
@@ -53,7 +46,7 @@ fn put_namespace(
 }
 
 /// Appends a namespace with the names of its elements that aren't returned, each with error code 0.
-fn put_namespace_errors(
+fn append_namespace_errors(
     build: &mut Build,
     missing: &[MissingElement<'_>],
     ns: &str,
@@ -76,24 +69,28 @@ fn put_namespace_errors(
 /// Appends the map of namespaces to their items (ISO/IEC 18013-5, 8.3.2.1.2.2), in the order in which they
 /// appear first.
 #[tactic(auto, unfolding(crate::specs::Answered::items_map))]
-pub fn put_items(alloc: Global, build: &mut Build, items: &[ReleasedItem<'_>]) -> Result<(), Memory>
+pub fn append_items(
+    alloc: Global,
+    build: &mut Build,
+    items: &[ReleasedItem<'_>],
+) -> Result<(), Memory>
     ensures { OnOk result (build.new ≡ build.old ++ items_map (map item_seen items.now)) }
 {
     let mut all = Vec::new(alloc);
     for item in items {
         all.push(item.ns)?;
     }
-    let namespaces = firsts(alloc, &all)?;
+    let namespaces = distinct_texts(alloc, &all)?;
     build.map(count_of(namespaces.len())?)?;
     for ns in &namespaces {
-        put_namespace(build, items, ns, count_of(count_text(&all, ns))?)?;
+        append_namespace(build, items, ns, count_of(count_text(&all, ns))?)?;
     }
     Ok(())
 }
 
 /// Appends the map of namespaces to their errors (8.3.2.1.2.2), in the order in which they appear first.
 #[tactic(auto, unfolding(crate::specs::Answered::errors_map))]
-pub fn put_errors(
+pub fn append_errors(
     alloc: Global,
     build: &mut Build,
     missing: &[MissingElement<'_>],
@@ -104,17 +101,17 @@ pub fn put_errors(
     for element in missing {
         all.push(element.ns)?;
     }
-    let namespaces = firsts(alloc, &all)?;
+    let namespaces = distinct_texts(alloc, &all)?;
     build.map(count_of(namespaces.len())?)?;
     for ns in &namespaces {
-        put_namespace_errors(build, missing, ns, count_of(count_text(&all, ns))?)?;
+        append_namespace_errors(build, missing, ns, count_of(count_text(&all, ns))?)?;
     }
     Ok(())
 }
 
 /// Appends the error of a document type of which nothing is returned, with code 0.
 #[tactic(auto, unfolding(crate::specs::Answered::document_error))]
-pub fn put_document_error(build: &mut Build, doc_type: &str) -> Result<(), Memory>
+pub fn append_document_error(build: &mut Build, doc_type: &str) -> Result<(), Memory>
     ensures { OnOk result (build.new ≡ build.old ++ document_error doc_type.now) }
 {
     build.map(1)?;

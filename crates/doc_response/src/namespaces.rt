@@ -1,7 +1,7 @@
 //! The namespaces of a list, each at its first appearance.
 
 ghost use Rattle.std.specs.Prelude.{◌≡◌, IfOk, OnOk};
-ghost use Rattle.doc_response.specs.Answered.{firsts, has_text};
+ghost use Rattle.doc_response.specs.Answered.{distinct_texts, has_text};
 ghost use Rattle.doc_response.specs.Namespaces.{added, texts};
 
 use mdoc_outside::Memory;
@@ -31,8 +31,8 @@ fn add<'a>(found: &mut Vec<&'a str>, text: &'a str) -> Result<(), Memory>
 }
 
 /// Each text of a list, at its first place: the namespaces of a list of items, say.
-pub fn firsts<'a>(alloc: Global, list: &[&'a str]) -> Result<Vec<&'a str>, Memory>
-    ensures { IfOk result (λ found. texts found.items ≡ firsts (texts list.now)) }
+pub fn distinct_texts<'a>(alloc: Global, list: &[&'a str]) -> Result<Vec<&'a str>, Memory>
+    ensures { IfOk result (λ found. texts found.items ≡ distinct_texts (texts list.now)) }
 {
     let mut found = Vec::new(alloc);
     for text in list {

@@ -4,10 +4,7 @@ use crate::{
     AnsweredDocument, DeviceAuth, Response, ResponseDoc, ResponseDocs, ResponseDraft,
     ResponseErrors, ResponseFault, ResponseItems,
 };
-
-fn is_send<T: Send>() {}
-
-fn is_sync<T: Sync>() {}
+use mdoc_outside::{is_send, is_sync};
 
 /// Responses that are put together and that were read may be handed to another thread, and shared with it.
 pub fn types_are_send_and_sync() {

@@ -2,7 +2,7 @@
 
 ghost use Rattle.std.specs.Prelude.{◌≡◌, ◌≤◌, ◌++◌, ◌==◌, length, map, filter, IfOk, OnOk, Some, if◌then◌else◌};
 ghost use Rattle.cbor_view.specs.Shortest.{array_bytes};
-ghost use Rattle.cbor_maps.specs.Writing.{key_bytes, map_head, named_map, put};
+ghost use Rattle.cbor_maps.specs.Writing.{map_head, named_map, put};
 ghost use Rattle.mdoc_outside.specs.declared.key_name.KeyName.TheVariants.{DocumentErrors, Documents, Errors};
 ghost use Rattle.doc_response.specs.Answered.{document_error, errors_map, if_any, is_empty};
 ghost use Rattle.doc_response.specs.AnsweredView.{element_seen, text_seen};
@@ -11,10 +11,10 @@ ghost use Rattle.doc_response.specs.Namespaces.{entries_of};
 ghost use Rattle.doc_response.specs.Written.{auth_fields, device_signed, document_bytes, empty, full_fields, given, issuer_fields, not_given, refusal_fields, response_bytes, types_of};
 
 use crate::draft_document::DraftDocument;
-use crate::groups::{count_of, put_document_error, put_errors, put_items};
+use crate::groups::{append_document_error, append_errors, append_items};
 use crate::{DeviceAuth, MissingElement, ResponseDraft};
-use cbor_maps::MapBuild;
-use cbor_write::Build;
+use cbor_maps::{MapBuild, append_key, append_map_head};
+use cbor_write::{Build, count_of};
 use cose_msgs::{write_mac0, write_sign1};
 use mdoc_outside::{KeyName, Memory, Octets};
 use std::alloc::Global;
@@ -27,22 +27,6 @@ const EMPTY_MAP: [u8; 1] = [0xa0];
 
 /// Status 0, OK (ISO/IEC 18013-5, 8.3.2.1.2.3, table 8).
 const OK: u64 = 0;
-
-/// Appends the head of a map of so many fields.
-#[tactic(auto, unfolding(cbor_maps::specs::Writing::map_head))]
-fn put_map(build: &mut Build, count: u32) -> Result<(), Memory>
-    ensures { OnOk result (build.new ≡ build.old ++ map_head count) }
-{
-    build.map(count)
-}
-
-/// Appends the key of a field, whose value comes next.
-#[tactic(auto, unfolding(cbor_maps::specs::Writing::key_bytes))]
-fn put_key(build: &mut Build, name: KeyName) -> Result<(), Memory>
-    ensures { OnOk result (build.new ≡ build.old ++ key_bytes name) }
-{
-    build.text(name.text())
-}
 
 /// How many entries a list takes that is written only where there is something in it.
 fn entries_of(count: usize) -> u32
@@ -86,22 +70,22 @@ fn write_device_signed(alloc: Global, auth: DeviceAuth) -> Result<Octets, Memory
 }
 
 /// Appends what the issuer signed (IssuerSigned; 8.3.2.1.2.2).
-fn put_issuer_signed(
+fn append_issuer_signed(
     alloc: Global,
     build: &mut Build,
     document: &DraftDocument<'_>,
 ) -> Result<(), Memory>
     ensures { OnOk result (build.new ≡ build.old ++ named_map (issuer_fields (document_seen document.now))) }
 {
-    put_map(build, 2)?;
-    put_key(build, KeyName::NameSpaces)?;
-    put_items(alloc, build, document.answered.items())?;
-    put_key(build, KeyName::IssuerAuth)?;
+    append_map_head(build, 2)?;
+    append_key(build, KeyName::NameSpaces)?;
+    append_items(alloc, build, document.answered.items())?;
+    append_key(build, KeyName::IssuerAuth)?;
     build.append(document.issuer_auth)
 }
 
 /// Appends the errors of a document, where there are any.
-fn put_missing(
+fn append_missing(
     alloc: Global,
     build: &mut Build,
     missing: &[MissingElement<'_>],
@@ -111,12 +95,12 @@ fn put_missing(
     if missing.is_empty() {
         return Ok(());
     }
-    put_key(build, KeyName::Errors)?;
-    put_errors(alloc, build, missing)
+    append_key(build, KeyName::Errors)?;
+    append_errors(alloc, build, missing)
 }
 
 /// Appends a document (Document; 8.3.2.1.2.2).
-fn put_document(
+fn append_document(
     alloc: Global,
     build: &mut Build,
     document: &DraftDocument<'_>,
@@ -124,15 +108,15 @@ fn put_document(
     ensures { OnOk result (build.new ≡ build.old ++ document_bytes (document_seen document.now)) }
 {
     let missing = document.answered.missing_elements();
-    put_map(build, 3 + entries_of(missing.len()))?;
-    put_key(build, KeyName::DocType)?;
+    append_map_head(build, 3 + entries_of(missing.len()))?;
+    append_key(build, KeyName::DocType)?;
     build.text(document.answered.doc_type())?;
-    put_key(build, KeyName::IssuerSigned)?;
-    put_issuer_signed(alloc, build, document)?;
+    append_key(build, KeyName::IssuerSigned)?;
+    append_issuer_signed(alloc, build, document)?;
     let device_signed = write_device_signed(alloc, document.auth)?;
-    put_key(build, KeyName::DeviceSigned)?;
+    append_key(build, KeyName::DeviceSigned)?;
     build.append(device_signed.as_slice())?;
-    put_missing(alloc, build, missing)
+    append_missing(alloc, build, missing)
 }
 
 /// Whether nothing of a document is released.
@@ -156,7 +140,7 @@ fn count_given(documents: &[DraftDocument<'_>]) -> usize
 }
 
 /// Appends the documents of which something is released, where there are any.
-fn put_documents(
+fn append_documents(
     alloc: Global,
     build: &mut Build,
     documents: &[DraftDocument<'_>],
@@ -168,27 +152,27 @@ fn put_documents(
     if count == 0 {
         return Ok(());
     }
-    put_key(build, KeyName::Documents)?;
+    append_key(build, KeyName::Documents)?;
     build.array(count)?;
     for document in documents {
         if !is_empty(document) {
-            put_document(alloc, build, document)?;
+            append_document(alloc, build, document)?;
         }
     }
     Ok(())
 }
 
 /// Appends the errors of document types, where there are any.
-fn put_document_errors(build: &mut Build, types: &[&str]) -> Result<(), Memory>
+fn append_document_errors(build: &mut Build, types: &[&str]) -> Result<(), Memory>
     ensures { OnOk result (build.new ≡ put build.old DocumentErrors (if_any (map text_seen types.now) (array_bytes (map document_error (map text_seen types.now))))) }
 {
     if types.is_empty() {
         return Ok(());
     }
-    put_key(build, KeyName::DocumentErrors)?;
+    append_key(build, KeyName::DocumentErrors)?;
     build.array(count_of(types.len())?)?;
     for doc_type in types {
-        put_document_error(build, doc_type)?;
+        append_document_error(build, doc_type)?;
     }
     Ok(())
 }
@@ -233,12 +217,12 @@ fn write_full(alloc: Global, parts: &ResponseDraft<'_>) -> Result<Octets, Memory
     let types = types_not_given(alloc, parts)?;
     let mut build = Build::new(alloc);
     let lists = entries_of(documents as usize) + entries_of(types.len());
-    put_map(&mut build, 2 + lists)?;
-    put_key(&mut build, KeyName::Version)?;
+    append_map_head(&mut build, 2 + lists)?;
+    append_key(&mut build, KeyName::Version)?;
     build.text(VERSION)?;
-    put_documents(alloc, &mut build, parts.documents(), documents)?;
-    put_document_errors(&mut build, &types)?;
-    put_key(&mut build, KeyName::Status)?;
+    append_documents(alloc, &mut build, parts.documents(), documents)?;
+    append_document_errors(&mut build, &types)?;
+    append_key(&mut build, KeyName::Status)?;
     build.uint(parts.status())?;
     Ok(build.finish())
 }

@@ -6,8 +6,9 @@ use Rattle.std.proofs.lemmas.Bool.Decides.{nat_tests}
 use Rattle.cbor_view.specs.PartialItem.{PartialItem}
 use Rattle.mdoc_outside.specs.OptionSteps.{◌>>=◌, where_true, each}
 use Rattle.mdoc_outside.specs.declared.limit_name.LimitName.{LimitName}
+use Rattle.mdoc_outside.specs.ListSteps.{unless}
 use Rattle.doc_store.specs.declared.first_fault.Fault.{Fault}
-use Rattle.doc_store.specs.Faults.{is_before, earlier, first_fault, unless, beyond, beyond_at}
+use Rattle.doc_store.specs.Faults.{is_before, earlier_fault, first_fault, beyond, beyond_at}
 
 abbrev pub is_clean : List Fault → Bool
 is_clean [] = true
@@ -35,7 +36,7 @@ from_zero n = grind (arith, nat_tests)
 
 -- ---- the first fault of a list
 
-earlier_some : (f : Fault) (o : Option Fault) → is_some (earlier f o) ≡ true
+earlier_some : (f : Fault) (o : Option Fault) → is_some (earlier_fault f o) ≡ true
 earlier_some f None = refl
 earlier_some f (Some other) = by (is_before other f) where
   by : (b : Bool) → is_some (cond b (Some other) (Some f)) ≡ true

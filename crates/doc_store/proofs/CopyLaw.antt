@@ -7,10 +7,11 @@ use Rattle.cbor_view.specs.Parts.{Part, uint_in, boolean_in, items_in, pairs_in}
 use Rattle.cbor_view.proofs.ReadParts.{IsRead}
 use Rattle.mdoc_outside.specs.declared.key_name.KeyName.TheVariants as keys
 use Rattle.mdoc_outside.specs.OptionSteps.{◌>>=◌, where_true}
+use Rattle.mdoc_outside.specs.ListSteps.{unless}
 use Rattle.doc_store.specs.declared.first_fault.Fault.{Fault}
 use Rattle.doc_store.specs.declared.store_check.StoreCheck.TheVariants as checks
 use Rattle.doc_store.specs.Store.{Copy, within, items_of, copy}
-use Rattle.doc_store.specs.Faults.{fault, if_kind, unless, nothing, key_number, used_faults, auth_of_issuer, spaces_faults, copy_faults}
+use Rattle.doc_store.specs.Faults.{fault, if_kind, nothing, key_number, used_faults, auth_of_issuer, spaces_faults, copy_faults}
 use Rattle.doc_store.proofs.CleanLaw.{is_clean, clean_unless, some_where}
 use Rattle.doc_store.proofs.KeyLaw.{holds, FieldTest, all_hold, clean_map, value_in, field_value, field_any}
 use Rattle.doc_store.proofs.SpaceLaw.{clean_spaces}

@@ -10,9 +10,10 @@ use Rattle.cbor_view.proofs.ReadParts.{IsRead, items_read}
 use Rattle.mdoc_outside.specs.declared.key_name.KeyName.TheVariants as keys
 use Rattle.mdoc_outside.specs.declared.limit_name.LimitName.TheVariants as limits
 use Rattle.mdoc_outside.specs.OptionSteps.{◌>>=◌, where_true, each}
+use Rattle.mdoc_outside.specs.ListSteps.{unless}
 use Rattle.doc_store.specs.declared.store_check.StoreCheck.TheVariants as checks
 use Rattle.doc_store.specs.Store.{Copy, Document, name_in, within, copy, is_mac, document}
-use Rattle.doc_store.specs.Faults.{fault, if_kind, unless, beyond, doc_type_faults, auth_faults, copy_faults, copies_faults, copy_list_faults, document_faults, no_copy}
+use Rattle.doc_store.specs.Faults.{fault, if_kind, beyond, doc_type_faults, auth_faults, copy_faults, copies_faults, copy_list_faults, document_faults, no_copy}
 use Rattle.doc_store.proofs.CleanLaw.{is_clean, and_false, and_true, clean_joined, and_same, clean_unless, clean_beyond, clean_each}
 use Rattle.doc_store.proofs.KeyLaw.{FieldTest, all_hold, clean_map, value_in, field_value}
 use Rattle.doc_store.proofs.SpaceLaw.{clean_name}

@@ -15,12 +15,13 @@ use Rattle.cbor_view.proofs.ReadParts.{IsRead, items_read}
 use Rattle.mdoc_outside.specs.declared.key_name.KeyName.TheVariants as keys
 use Rattle.mdoc_outside.specs.declared.limit_name.LimitName.TheVariants as limits
 use Rattle.mdoc_outside.specs.OptionSteps.{◌>>=◌, where_true, each}
+use Rattle.mdoc_outside.specs.ListSteps.{unless}
 use Rattle.doc_store.specs.Fields.{field_of, are_distinct}
 use Rattle.doc_store.specs.Item.{if_spelled}
 use Rattle.doc_store.specs.declared.first_fault.Fault.{Fault}
 use Rattle.doc_store.specs.declared.store_check.StoreCheck.TheVariants as checks
 use Rattle.doc_store.specs.Store.{Document, Store, name_in, within, document, store}
-use Rattle.doc_store.specs.Faults.{fault, if_kind, unless, Entries, entries_or_none, with_text, values_of, repeats, beyond, document_faults, doc_types, version_faults, documents_faults, form_faults, cbor_fault, faults, store_fault}
+use Rattle.doc_store.specs.Faults.{fault, if_kind, Entries, entries_or_none, with_text, values_of, repeats, beyond, document_faults, doc_types, version_faults, documents_faults, form_faults, cbor_fault, faults, store_fault}
 use Rattle.doc_store.proofs.CleanLaw.{is_clean, and_false, and_true, clean_first, clean_joined, and_same, clean_unless, clean_beyond, some_where, clean_each}
 use Rattle.doc_store.proofs.DistinctLaw.{texts_of, clean_repeats}
 use Rattle.doc_store.proofs.KeyLaw.{partial_entries, FieldTest, all_hold, clean_map, no_field, value_in, field_value, value_seen}

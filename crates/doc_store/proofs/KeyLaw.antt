@@ -11,10 +11,11 @@ use Rattle.cbor_maps.specs.Reading.{any_in, entry, needed, of_kind}
 use Rattle.mdoc_outside.specs.KeyName.{key_text}
 use Rattle.mdoc_outside.specs.declared.key_name.KeyName.{KeyName}
 use Rattle.mdoc_outside.specs.OptionSteps.{◌>>=◌}
+use Rattle.mdoc_outside.specs.ListSteps.{unless}
 use Rattle.doc_store.specs.Fields.{if_read, field_of}
 use Rattle.doc_store.specs.declared.first_fault.Fault.{Fault}
 use Rattle.doc_store.specs.declared.store_check.StoreCheck.TheVariants as checks
-use Rattle.doc_store.specs.Faults.{fault, if_kind, unless, is_text, is_key, Key, Entries, entries_of, values_of, doubled_at, has_key, key_faults, map_faults}
+use Rattle.doc_store.specs.Faults.{fault, if_kind, is_text, is_key, Key, Entries, entries_of, values_of, doubled_at, has_key, key_faults, map_faults}
 use Rattle.doc_store.proofs.CleanLaw.{is_clean, and_true, and_same, clean_joined}
 use Rattle.cbor_view.proofs.ReadParts.{IsRead, BothRead, pairs_read}
 

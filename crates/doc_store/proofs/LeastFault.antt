@@ -4,7 +4,7 @@ use Rattle.std.specs.Prelude.{nat_lt, ◌==◌, ◌&&◌, ◌||◌, Contains}
 use Rattle.std.specs.List.{AllByRecursion}
 use Rattle.std.proofs.lemmas.List.Elements.{All-from_recursion, Contains-append_right}
 use Rattle.doc_store.specs.declared.first_fault.Fault.{Fault}
-use Rattle.doc_store.specs.Faults.{rank, is_before, earlier, faults, first_fault, store_fault}
+use Rattle.doc_store.specs.Faults.{rank, is_before, earlier_fault, faults, first_fault, store_fault}
 use Rattle.doc_store.specs.FirstOf.{IsFirst}
 use Rattle.doc_store.proofs.FirstFaults.{before-not}
 
@@ -17,9 +17,9 @@ not_before_itself f = itself f.at (rank f.check) where
   itself a r = grind arith
 
 not_after : (f g : Fault) → is_before g f ≡ true → IsNotBefore g f
-not_after f g is = turned g.at (rank g.check) f.at (rank f.check) is where
-  turned : (a r b s : ℕ) → (nat_lt a b || (a == b && nat_lt r s)) ≡ true → (nat_lt b a || (b == a && nat_lt s r)) ≡ false
-  turned a r b s e = grind arith
+not_after f g is = mapped g.at (rank g.check) f.at (rank f.check) is where
+  mapped : (a r b s : ℕ) → (nat_lt a b || (a == b && nat_lt r s)) ≡ true → (nat_lt b a || (b == a && nat_lt s r)) ≡ false
+  mapped a r b s e = grind arith
 
 -- of what isn't before one, nothing is before another that the one isn't before
 none_before : (f g : Fault) (fs : List Fault) → is_before g f ≡ false → AllByRecursion (IsNotBefore g) fs → AllByRecursion (IsNotBefore f) fs
@@ -30,7 +30,7 @@ none_before f g (x ∷ xs) is all =
 where_none : (f : Fault) (fs : List Fault) → first_fault fs ≡ None → AllByRecursion (IsNotBefore f) fs
 where_none f [] e = tt
 where_none f (x ∷ xs) e = never (first_fault xs) e where
-  never : (o : Option Fault) → earlier x o ≡ None → AllByRecursion (IsNotBefore f) (x ∷ xs)
+  never : (o : Option Fault) → earlier_fault x o ≡ None → AllByRecursion (IsNotBefore f) (x ∷ xs)
   never None e = cc
   never (Some g) e = by (is_before g x) e where
     by : (b : Bool) → cond b (Some g) (Some x) ≡ None → AllByRecursion (IsNotBefore f) (x ∷ xs)
@@ -50,7 +50,7 @@ found-of f g fs same all = subst (λ (h : Fault). Found h fs) same all
 first-found : (fs : List Fault) (f : Fault) → first_fault fs ≡ Some f → Found f fs
 first-found [] f e = cc
 first-found (x ∷ xs) f e = go (first_fault xs) refl (first-found xs) e where
-  go : (o : Option Fault) → first_fault xs ≡ o → ((g : Fault) → first_fault xs ≡ Some g → Found g xs) → earlier x o ≡ Some f → Found f (x ∷ xs)
+  go : (o : Option Fault) → first_fault xs ≡ o → ((g : Fault) → first_fault xs ≡ Some g → Found g xs) → earlier_fault x o ≡ Some f → Found f (x ∷ xs)
   go None none known e =
       let same : x ≡ f = cc in
       found-of f x (x ∷ xs) same (record { among = in_front x xs; least = (not_before_itself x, where_none x xs none) })

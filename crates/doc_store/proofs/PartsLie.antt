@@ -75,8 +75,8 @@ spaces-lie p entries e =
     let read = field-read keys.NameSpaces pairs_in p entries (field-ok keys.NameSpaces pairs_in p entries e) in
     go read.item (under-lies p read.item keys.NameSpaces read.under) entries (pairs-lie read.item entries read.is) where
       go : (map : Part) → LiesIn p map → (es : List (Part × Part)) → PairsLieIn map es → PairsLieIn p es
-      go map lies [] all = tt
-      go map lies (entry ∷ es) all = ((within-within p map entry.0 lies all.0.0, within-within p map entry.1 lies all.0.1), go map lies es all.1)
+      go map stands_in [] all = tt
+      go map stands_in (entry ∷ es) all = ((within-within p map entry.0 stands_in all.0.0, within-within p map entry.1 stands_in all.0.1), go map stands_in es all.1)
 
 -- ---- the part at a place
 
@@ -89,9 +89,9 @@ part-at p (x ∷ xs) (suc n) q all e = part-at p xs n q all.1 e
 
 spread-parts : (p value : Part) (own : List ℕ) (parts : List Part) → LiesIn p value → IsPart p.bytes own → AllLieIn value parts →
     AreItemParts p.bytes (spread (own, map (λ (part : Part). part.bytes) parts))
-spread-parts p value own [] lies name all = tt
-spread-parts p value own (part ∷ parts) lies name all =
-    (record { ns = name; raw = part-within p.bytes value.bytes part.bytes (lies-part p value lies) (lies-part value part all.0) }, spread-parts p value own parts lies name all.1)
+spread-parts p value own [] stands_in name all = tt
+spread-parts p value own (part ∷ parts) stands_in name all =
+    (record { ns = name; raw = part-within p.bytes value.bytes part.bytes (lies-part p value stands_in) (lies-part value part all.0) }, spread-parts p value own parts stands_in name all.1)
 
 space-part : (p : Part) (entry : Part × Part) → BothLieIn p entry → is_some (namespace entry) ≡ true → AreItemParts p.bytes (spread (value_or no_space namespace entry))
 space-part p entry lie read =

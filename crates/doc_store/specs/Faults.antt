@@ -13,6 +13,7 @@ use Rattle.mdoc_outside.specs.declared.key_name.KeyName.{KeyName}
 use Rattle.mdoc_outside.specs.declared.key_name.KeyName.TheVariants as keys
 use Rattle.mdoc_outside.specs.declared.limit_name.LimitName.{LimitName}
 use Rattle.mdoc_outside.specs.declared.limit_name.LimitName.TheVariants as limits
+use Rattle.mdoc_outside.specs.ListSteps.{unless}
 use Rattle.doc_store.specs.declared.first_fault.Fault.{Fault}
 use Rattle.issuer_items.specs.Item.{Item, item as issuer_item}
 use Rattle.doc_store.specs.Item.{item}
@@ -51,11 +52,6 @@ text_if_whole g = option_and_then text_in (whole_in g)
 
 abbrev pub boolean_if_whole : PartialItem → Option Bool
 boolean_if_whole g = option_and_then boolean_in (whole_in g)
-
--- a fault unless a test passes
-abbrev pub unless : Bool → Fault → List Fault
-unless true f = []
-unless false f = f ∷ []
 
 abbrev pub nothing : {A : Type 0} → A → List Fault
 nothing x = []
@@ -276,17 +272,17 @@ abbrev pub is_before : Fault → Fault → Bool
 is_before one other = nat_lt one.at other.at || (one.at == other.at && nat_lt (rank one.check) (rank other.check))
 
 -- the fault at the least place, of those at one place the first by the order of checks, and of equals the first
-abbrev pub earlier : Fault → Option Fault → Option Fault
-earlier f None = Some f
-earlier f (Some other) = if is_before other f then Some other else Some f
+abbrev pub earlier_fault : Fault → Option Fault → Option Fault
+earlier_fault f None = Some f
+earlier_fault f (Some other) = if is_before other f then Some other else Some f
 
-abbrev pub sooner : Option Fault → Option Fault → Option Fault
-sooner None other = other
-sooner (Some f) other = earlier f other
+abbrev pub earlier : Option Fault → Option Fault → Option Fault
+earlier None other = other
+earlier (Some f) other = earlier_fault f other
 
 abbrev pub first_fault : List Fault → Option Fault
 first_fault [] = None
-first_fault (f ∷ fs) = earlier f (first_fault fs)
+first_fault (f ∷ fs) = earlier_fault f (first_fault fs)
 
 -- what is wrong with a file, if something is
 abbrev pub store_fault : List ℕ → Option Fault

@@ -8,19 +8,18 @@ ghost use Rattle.doc_store.specs.Faults.{copies_faults, copy_faults, copy_list_f
 ghost use Rattle.doc_store.specs.Found.{Finds};
 
 use crate::StoreCheck;
-use crate::first_fault::{Fault, sooner};
+use crate::first_fault::{Fault, earlier};
 use crate::form_key::{FormKey, key_fault};
 use crate::kind_faults::{fault, other_kind};
 use crate::limit_faults::items_beyond;
-use crate::limits::MOST_COPIES;
 use crate::namespace_faults::NameSpaces;
 use crate::simple_keys::{DeviceKeyNumber, IssuerAuth, Used};
 use cbor_view::{PartialItems, PartialView};
-use mdoc_outside::{KeyName, LimitName, Memory};
+use mdoc_outside::{KeyName, LimitName, MOST_COPIES, Memory};
 use std::alloc::Global;
 
 /// What is wrong with a copy.
-#[tactic(auto, using(crate::proofs::FirstFaults::first_joined, crate::proofs::FirstFaults::sooner_none))]
+#[tactic(auto, using(crate::proofs::FirstFaults::first_joined, crate::proofs::FirstFaults::earlier_none))]
 fn copy_fault(alloc: Global, copy: &PartialView<'_>) -> Result<Option<Fault>, Memory>
     ensures { Finds result (copy_faults (partial_item copy.now)) }
 {
@@ -31,17 +30,17 @@ fn copy_fault(alloc: Global, copy: &PartialView<'_>) -> Result<Option<Fault>, Me
     let used = key_fault(&Used, alloc, copy, entries)?;
     let issuer_auth = key_fault(&IssuerAuth, alloc, copy, entries)?;
     let name_spaces = key_fault(&NameSpaces, alloc, copy, entries)?;
-    Ok(sooner(key, sooner(used, sooner(issuer_auth, name_spaces))))
+    Ok(earlier(key, earlier(used, earlier(issuer_auth, name_spaces))))
 }
 
 /// The first fault of several copies.
-#[tactic(auto, using(crate::proofs::FirstFaults::one_more, crate::proofs::FirstFaults::sooner_none))]
+#[tactic(auto, using(crate::proofs::FirstFaults::one_more, crate::proofs::FirstFaults::earlier_none))]
 fn of_copies(alloc: Global, copies: PartialItems<'_>) -> Result<Option<Fault>, Memory>
     ensures { Finds result (flat_map copy_faults (partial_items_left copies.entry)) }
 {
     let mut found = None;
     for copy in copies {
-        found = sooner(found, copy_fault(alloc, &copy)?);
+        found = earlier(found, copy_fault(alloc, &copy)?);
     }
     Ok(found)
 }
@@ -58,7 +57,7 @@ fn no_copy(list: &PartialView<'_>, copies: PartialItems<'_>) -> Option<Fault>
 }
 
 /// What is wrong with the copies of a document.
-#[tactic(auto, using(crate::proofs::FirstFaults::first_joined, crate::proofs::FirstFaults::sooner_none))]
+#[tactic(auto, using(crate::proofs::FirstFaults::first_joined, crate::proofs::FirstFaults::earlier_none))]
 fn copies_fault(
     alloc: Global,
     list: &PartialView<'_>,
@@ -68,7 +67,7 @@ fn copies_fault(
 {
     let of_each = of_copies(alloc, copies)?;
     let beyond = items_beyond(copies, LimitName::Copies, MOST_COPIES);
-    Ok(sooner(sooner(no_copy(list, copies), of_each), beyond))
+    Ok(earlier(earlier(no_copy(list, copies), of_each), beyond))
 }
 
 /// The copies of a document.

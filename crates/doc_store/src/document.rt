@@ -36,7 +36,7 @@ impl<'a> Document<'a> {
     /// The document type (ISO/IEC 18013-5, 8.3.2.1.2.1).
     pub fn doc_type(&self) -> &'a str
         ensures exact { result.now ≡ (document_of self.now).doc_type }
-        ensures lies { IsPart (document_part self.now).bytes result.now }
+        ensures stands_in { IsPart (document_part self.now).bytes result.now }
     {
         match read_doc_type(&self.stored) {
             Some(doc_type) => doc_type,
@@ -65,7 +65,7 @@ impl<'a> Document<'a> {
     pub fn copy(&self, n: usize) -> StoredCopy<'a>
         requires { n < length (document_of self.now).copies }
         ensures exact { slice_get (document_of self.now).copies n ≡ Some (copy_of result) }
-        ensures lies { LiesIn (document_part self.now) (copy_part result) }
+        ensures stands_in { LiesIn (document_part self.now) (copy_part result) }
     {
         match item_at(self.stored_copies(), n) {
             Some(stored) => StoredCopy { stored },

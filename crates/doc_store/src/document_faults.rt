@@ -9,19 +9,18 @@ ghost use Rattle.doc_store.specs.Found.{Finds};
 
 use crate::StoreCheck;
 use crate::copy_faults::Copies;
-use crate::first_fault::{Fault, sooner};
+use crate::first_fault::{Fault, earlier};
 use crate::form_key::{FormKey, key_fault};
 use crate::kind_faults::other_kind;
 use crate::limit_faults::items_beyond;
-use crate::limits::MOST_DOCUMENTS;
 use crate::repeats::{Repeats, take_types};
 use crate::simple_keys::{Auth, DocType};
 use cbor_view::{PartialItems, PartialView};
-use mdoc_outside::{KeyName, LimitName, Memory};
+use mdoc_outside::{KeyName, LimitName, MOST_DOCUMENTS, Memory};
 use std::alloc::Global;
 
 /// What is wrong with a document.
-#[tactic(auto, using(crate::proofs::FirstFaults::first_joined, crate::proofs::FirstFaults::sooner_none))]
+#[tactic(auto, using(crate::proofs::FirstFaults::first_joined, crate::proofs::FirstFaults::earlier_none))]
 fn document_fault(alloc: Global, document: &PartialView<'_>) -> Result<Option<Fault>, Memory>
     ensures { Finds result (document_faults (partial_item document.now)) }
 {
@@ -31,11 +30,11 @@ fn document_fault(alloc: Global, document: &PartialView<'_>) -> Result<Option<Fa
     let doc_type = key_fault(&DocType, alloc, document, entries)?;
     let auth = key_fault(&Auth, alloc, document, entries)?;
     let copies = key_fault(&Copies, alloc, document, entries)?;
-    Ok(sooner(doc_type, sooner(auth, copies)))
+    Ok(earlier(doc_type, earlier(auth, copies)))
 }
 
 /// What is wrong with each document, and with their types.
-#[tactic(auto, using(crate::proofs::FirstFaults::first_joined, crate::proofs::FirstFaults::one_more, crate::proofs::FirstFaults::sooner_none))]
+#[tactic(auto, using(crate::proofs::FirstFaults::first_joined, crate::proofs::FirstFaults::one_more, crate::proofs::FirstFaults::earlier_none))]
 fn of_documents(alloc: Global, documents: PartialItems<'_>) -> Result<Option<Fault>, Memory>
     ensures { Finds result (flat_map document_faults (partial_items_left documents.entry)
         ++ repeats (flat_map doc_types (partial_items_left documents.entry))) }
@@ -43,22 +42,22 @@ fn of_documents(alloc: Global, documents: PartialItems<'_>) -> Result<Option<Fau
     let mut types = Repeats::new(alloc);
     let mut found = None;
     for document in documents {
-        found = sooner(found, document_fault(alloc, &document)?);
+        found = earlier(found, document_fault(alloc, &document)?);
         if let Some(entries) = document.pairs() {
             take_types(&mut types, entries)?;
         }
     }
-    Ok(sooner(found, types.first()))
+    Ok(earlier(found, types.first()))
 }
 
 /// What is wrong with a list of documents.
-#[tactic(auto, using(crate::proofs::FirstFaults::first_joined, crate::proofs::FirstFaults::sooner_none))]
+#[tactic(auto, using(crate::proofs::FirstFaults::first_joined, crate::proofs::FirstFaults::earlier_none))]
 fn documents_fault(alloc: Global, documents: PartialItems<'_>) -> Result<Option<Fault>, Memory>
     ensures { Finds result (document_list_faults (partial_items_left documents.entry)) }
 {
     let of_each = of_documents(alloc, documents)?;
     let beyond = items_beyond(documents, LimitName::Documents, MOST_DOCUMENTS);
-    Ok(sooner(of_each, beyond))
+    Ok(earlier(of_each, beyond))
 }
 
 /// The documents of a store file.

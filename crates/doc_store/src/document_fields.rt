@@ -7,11 +7,10 @@ ghost use Rattle.cbor_maps.specs.NamedMap.{whole_map};
 ghost use Rattle.doc_store.specs.DocumentFields.{doc_type_in, uses_mac_in, copies_in, documents_in};
 ghost use Rattle.doc_store.specs.Store.{is_mac};
 
-use crate::limits::{MOST_COPIES, MOST_DOCUMENTS};
 use crate::parts::{items_within, read_name};
 use cbor_maps::NamedMap;
 use cbor_view::{Items, View};
-use mdoc_outside::KeyName;
+use mdoc_outside::{KeyName, MOST_COPIES, MOST_DOCUMENTS};
 
 /// The documents of the file.
 pub(crate) fn read_documents<'a>(file: &View<'a>) -> Option<Items<'a>>

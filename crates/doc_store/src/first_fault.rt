@@ -1,7 +1,7 @@
 //! The first of the faults of a store file.
 
 ghost use Rattle.std.specs.Prelude.{◌≡◌};
-ghost use Rattle.doc_store.specs.Faults.{is_before, rank, sooner};
+ghost use Rattle.doc_store.specs.Faults.{is_before, rank, earlier};
 
 use crate::StoreCheck;
 use mdoc_outside::LimitName;
@@ -42,8 +42,8 @@ fn is_before(one: &Fault, other: &Fault) -> bool
 }
 
 /// The first of two, and of equals the one.
-pub(crate) fn sooner(one: Option<Fault>, other: Option<Fault>) -> Option<Fault>
-    ensures { result ≡ sooner one other }
+pub(crate) fn earlier(one: Option<Fault>, other: Option<Fault>) -> Option<Fault>
+    ensures { result ≡ earlier one other }
 {
     match (one, other) {
         (Some(one), Some(other)) if is_before(&other, &one) => Some(other),

@@ -9,7 +9,7 @@ ghost use Rattle.doc_store.specs.Found.{Finds};
 
 use crate::StoreCheck;
 use crate::document_faults::Documents;
-use crate::first_fault::{Fault, sooner};
+use crate::first_fault::{Fault, earlier};
 use crate::form_key::key_fault;
 use crate::kind_faults::other_kind;
 use crate::simple_keys::Version;
@@ -18,7 +18,7 @@ use mdoc_outside::{KeyName, Memory};
 use std::alloc::Global;
 
 /// What is wrong with the map of a file.
-#[tactic(auto, using(crate::proofs::FirstFaults::first_joined, crate::proofs::FirstFaults::sooner_none))]
+#[tactic(auto, using(crate::proofs::FirstFaults::first_joined, crate::proofs::FirstFaults::earlier_none))]
 fn form_fault(alloc: Global, file: &PartialView<'_>) -> Result<Option<Fault>, Memory>
     ensures { Finds result (form_faults (partial_item file.now)) }
 {
@@ -27,7 +27,7 @@ fn form_fault(alloc: Global, file: &PartialView<'_>) -> Result<Option<Fault>, Me
     };
     let version = key_fault(&Version, alloc, file, entries)?;
     let documents = key_fault(&Documents, alloc, file, entries)?;
-    Ok(sooner(version, documents))
+    Ok(earlier(version, documents))
 }
 
 /// What is wrong with the CBOR of a file.
@@ -49,5 +49,5 @@ pub(crate) fn first_fault_of(alloc: Global, file: &[u8]) -> Result<Option<Fault>
     ensures { Finds result (faults file.now) }
 {
     let of_form = form_fault(alloc, &PartialView::read(file))?;
-    Ok(sooner(cbor_fault(file), of_form))
+    Ok(earlier(cbor_fault(file), of_form))
 }

@@ -6,12 +6,13 @@ ghost use Rattle.cbor_view.specs.PartialItem.{PartialItem, whole_in};
 ghost use Rattle.cbor_view.specs.PartialView.{partial_item};
 ghost use Rattle.cbor_view.specs.PartialPairs.{partial_pairs_left};
 ghost use Rattle.mdoc_outside.specs.KeyName.{key_text};
+ghost use Rattle.mdoc_outside.specs.ListSteps.{unless};
 ghost use Rattle.doc_store.specs.Found.{Finds};
-ghost use Rattle.doc_store.specs.Faults.{Key, fault, first_fault, is_text, key_faults, text_if_whole, unless};
+ghost use Rattle.doc_store.specs.Faults.{Key, fault, first_fault, is_text, key_faults, text_if_whole};
 ghost use Rattle.doc_store.specs.declared.store_check.StoreCheck.TheVariants as checks;
 
 use crate::StoreCheck;
-use crate::first_fault::{Fault, sooner};
+use crate::first_fault::{Fault, earlier};
 use crate::kind_faults::{fault, text};
 use cbor_view::{PartialPairs, PartialView};
 use mdoc_outside::{KeyName, Memory};
@@ -64,7 +65,7 @@ fn again_at(stood: bool, again: Option<Fault>, item: &PartialView<'_>) -> Option
 }
 
 /// The first fault by a key of a map: it stands nowhere, it stands again, or a value of it is wrong.
-#[tactic(auto, using(crate::proofs::FirstFaults::first_joined, crate::proofs::FirstFaults::one_more, crate::proofs::FirstFaults::sooner_none))]
+#[tactic(auto, using(crate::proofs::FirstFaults::first_joined, crate::proofs::FirstFaults::one_more, crate::proofs::FirstFaults::earlier_none))]
 pub(crate) fn key_fault<K: FormKey>(
     key: &K,
     alloc: Global,
@@ -83,10 +84,10 @@ pub(crate) fn key_fault<K: FormKey>(
             again = again_at(stands, again, &item);
             stands = true;
             if let Some(value) = value {
-                found = sooner(found, key.fault_of(alloc, &value)?);
+                found = earlier(found, key.fault_of(alloc, &value)?);
             }
         }
     }
     let missing = if stands { None } else { missing(map, name) };
-    Ok(sooner(missing, sooner(again, found)))
+    Ok(earlier(missing, earlier(again, found)))
 }

@@ -6,9 +6,8 @@ ghost use Rattle.doc_store.specs.Faults.{boolean_if_whole, fault, first_fault, i
 
 use crate::StoreCheck;
 use crate::first_fault::Fault;
-use crate::limits::MOST_NAME_BYTES;
 use cbor_view::PartialView;
-use mdoc_outside::LimitName;
+use mdoc_outside::{LimitName, MOST_NAME_BYTES};
 
 /// A check that fails at the head of an item.
 pub(crate) fn fault(check: StoreCheck, at: &PartialView<'_>) -> Fault

@@ -37,7 +37,7 @@ pub fn store_iff_no_fault()
 {}
 
 /// The law that the first fault of a file is one of its faults, and that none of them stands before it:
-/// at a place before it, or at its place with a check that comes sooner.
+/// at a place before it, or at its place with a check that comes earlier.
 pub fn first_of_all()
     ensures { (bytes : List ℕ) (f : Fault) → store_fault bytes ≡ Some f → IsFirst f (faults bytes) }
 {}

@@ -1,22 +1,4 @@
-//! The limits of a store.
-
-/// The most bytes of a name: of a document type, a namespace or an element.
-pub(crate) const MOST_NAME_BYTES: usize = 128;
-
-/// The most bytes of an element's value.
-pub(crate) const MOST_VALUE_BYTES: usize = 262_144;
-
-/// The most items of a copy.
-pub(crate) const MOST_ITEMS: usize = 512;
-
-/// The most namespaces of a copy.
-pub(crate) const MOST_NAMESPACES: usize = 16;
-
-/// The most copies of a document.
-pub(crate) const MOST_COPIES: usize = 64;
-
-/// The most documents of a store.
-pub(crate) const MOST_DOCUMENTS: usize = 16;
+//! The numbers of the form of a store.
 
 /// The parts of an issuer's signature (RFC 9052, section 4.2).
 pub(crate) const SIGNATURE_PARTS: usize = 4;

@@ -11,15 +11,14 @@ ghost use Rattle.doc_store.specs.Found.{Finds};
 ghost use Rattle.doc_store.specs.ItemOrRest.{ok_map, item_or_rest};
 
 use crate::StoreCheck;
-use crate::first_fault::{Fault, sooner};
+use crate::first_fault::{Fault, earlier};
 use crate::form_key::FormKey;
 use crate::kind_faults::{name_limit, other_kind, text};
 use crate::limit_faults::{beyond_at, keys_beyond};
-use crate::limits::{MOST_ITEMS, MOST_NAMESPACES};
 use crate::repeats::Repeats;
 use crate::stored_item::fault_and_name;
 use cbor_view::{PartialItems, PartialPairs, PartialView};
-use mdoc_outside::{KeyName, LimitName, Memory};
+use mdoc_outside::{KeyName, LimitName, MOST_ITEMS, MOST_NAMESPACES, Memory};
 use std::alloc::Global;
 
 /// The check that the namespaces of a copy have their kind.
@@ -44,7 +43,7 @@ impl FormKey for NameSpaces {
 }
 
 /// What is wrong with the items of a namespace.
-#[tactic(auto, using(crate::proofs::FirstFaults::first_joined, crate::proofs::FirstFaults::one_more, crate::proofs::FirstFaults::sooner_none))]
+#[tactic(auto, using(crate::proofs::FirstFaults::first_joined, crate::proofs::FirstFaults::one_more, crate::proofs::FirstFaults::earlier_none))]
 fn items_fault(alloc: Global, items: PartialItems<'_>) -> Result<Option<Fault>, Memory>
     ensures { Finds result (items_faults (partial_items_left items.entry)) }
 {
@@ -52,12 +51,12 @@ fn items_fault(alloc: Global, items: PartialItems<'_>) -> Result<Option<Fault>, 
     let mut found = None;
     for item in items {
         let (own, name) = fault_and_name(&item);
-        found = sooner(found, own);
+        found = earlier(found, own);
         if let Some(name) = name {
             names.take(name, &item)?;
         }
     }
-    Ok(sooner(found, names.first()))
+    Ok(earlier(found, names.first()))
 }
 
 /// The same, of the value that should be their array.
@@ -93,11 +92,11 @@ fn space_fault(
     ensures { Finds result (space_faults (partial_item name.now, option_map partial_item value.entry)) }
 {
     let of_value = value_fault(alloc, value)?;
-    Ok(sooner(name_fault(name), of_value))
+    Ok(earlier(name_fault(name), of_value))
 }
 
 /// What is wrong with each namespace, and with their names.
-#[tactic(auto, using(crate::proofs::FirstFaults::first_joined, crate::proofs::FirstFaults::one_more, crate::proofs::FirstFaults::sooner_none))]
+#[tactic(auto, using(crate::proofs::FirstFaults::first_joined, crate::proofs::FirstFaults::one_more, crate::proofs::FirstFaults::earlier_none))]
 fn of_spaces(alloc: Global, entries: PartialPairs<'_>) -> Result<Option<Fault>, Memory>
     ensures { Finds result (flat_map space_faults (partial_pairs_left entries.entry)
         ++ repeats (filter_map with_text (keys_in (partial_pairs_left entries.entry)))) }
@@ -105,12 +104,12 @@ fn of_spaces(alloc: Global, entries: PartialPairs<'_>) -> Result<Option<Fault>, 
     let mut names = Repeats::new(alloc);
     let mut found = None;
     for (key, value) in entries {
-        found = sooner(found, space_fault(alloc, &key, value)?);
+        found = earlier(found, space_fault(alloc, &key, value)?);
         if let Some(name) = text(&key) {
             names.take(name, &key)?;
         }
     }
-    Ok(sooner(found, names.first()))
+    Ok(earlier(found, names.first()))
 }
 
 /// The item at a place of an array, or how many places lie beyond it.
@@ -161,7 +160,7 @@ fn item_of_all<'a>(entries: PartialPairs<'a>, place: usize) -> Option<PartialVie
 }
 
 /// What is wrong with all namespaces.
-#[tactic(auto, using(crate::proofs::FirstFaults::first_joined, crate::proofs::FirstFaults::sooner_none))]
+#[tactic(auto, using(crate::proofs::FirstFaults::first_joined, crate::proofs::FirstFaults::earlier_none))]
 fn entries_fault(alloc: Global, entries: PartialPairs<'_>) -> Result<Option<Fault>, Memory>
     ensures { Finds result (entries_faults (partial_pairs_left entries.entry)) }
 {
@@ -169,5 +168,5 @@ fn entries_fault(alloc: Global, entries: PartialPairs<'_>) -> Result<Option<Faul
     let spaces = keys_beyond(entries, LimitName::Namespaces, MOST_NAMESPACES);
     let past = item_of_all(entries, MOST_ITEMS);
     let items = beyond_at(LimitName::Items, MOST_ITEMS, past);
-    Ok(sooner(sooner(of_each, spaces), items))
+    Ok(earlier(earlier(of_each, spaces), items))
 }

@@ -5,8 +5,8 @@ ghost use Rattle.cbor_view.specs.Items.{left};
 ghost use Rattle.cbor_view.specs.View.{part};
 ghost use Rattle.doc_store.specs.Store.{name_in, within};
 
-use crate::limits::MOST_NAME_BYTES;
 use cbor_view::{Items, View};
+use mdoc_outside::MOST_NAME_BYTES;
 
 /// A name: a text that is not too long.
 pub(crate) fn read_name<'a>(value: &View<'a>) -> Option<&'a str>

@@ -5,10 +5,7 @@ use crate::document::Document;
 use crate::store::Store;
 use crate::store_file::StoreFile;
 use crate::stored_copy::StoredCopy;
-
-fn is_send<T: Send>() {}
-
-fn is_sync<T: Sync>() {}
+use mdoc_outside::{is_send, is_sync};
 
 /// A store and its file, its documents, their copies and the iterator over the items of a copy are Send and Sync.
 pub fn types_are_send_and_sync() {

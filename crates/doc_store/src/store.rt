@@ -1,6 +1,7 @@
 //! The store of a holder.
 
-ghost use Rattle.std.specs.Prelude.{◌≡◌, ◌<◌, ◌≤◌, true, Some, None, IfOk, IfSome, MatchOption, is_some, length, option_map, slice_get};
+ghost use Rattle.std.specs.Prelude.{◌≡◌, ◌<◌, ◌≤◌, true, Some, None, IfOk, IfSome, MatchOption, is_some, length, map, option_map, slice_get};
+ghost use Rattle.std.specs.List.{AllByRecursion};
 ghost use Rattle.cbor_view.specs.Items.{left};
 ghost use Rattle.cbor_view.specs.Parts.{AllLieIn, LiesIn};
 ghost use Rattle.mdoc_outside.specs.OptionSteps.{each};
@@ -14,6 +15,7 @@ use crate::document_fields::read_documents;
 use crate::form_faults::first_fault_of;
 use crate::listing::{count_of, item_at};
 use cbor_view::{Items, View};
+use mdoc_outside::Memory;
 use std::alloc::Global;
 
 /// A store: the documents of a holder, as their bytes spell them. It keeps the bytes, and looks at
@@ -57,12 +59,24 @@ impl<'a> Store<'a> {
     pub fn document(&self, n: usize) -> Document<'a>
         requires { n < length (documents_in self.now) }
         ensures exact { slice_get (documents_in self.now) n ≡ Some (document_of result) }
-        ensures lies { LiesIn (whole_file self.now) (document_part result) }
+        ensures stands_in { LiesIn (whole_file self.now) (document_part result) }
     {
         match item_at(self.stored_documents(), n) {
             Some(stored) => Document { stored },
             None => unreachable!(),
         }
+    }
+
+    /// The documents, in the order of the file. The file is walked once, and the documents are kept in memory.
+    pub fn list(&self, alloc: Global) -> Result<Vec<Document<'a>>, Memory>
+        ensures exact { IfOk result (λ list. map document_of list.items ≡ documents_in self.now) }
+        ensures lie { IfOk result (λ list. AllByRecursion (λ d. LiesIn (whole_file self.now) (document_part d)) list.items) }
+    {
+        let mut list = Vec::new(alloc);
+        for stored in self.stored_documents() {
+            list.push(Document { stored })?;
+        }
+        Ok(list)
     }
 
     /// The document of a type, if there is one.
@@ -72,7 +86,7 @@ impl<'a> Store<'a> {
         ensures place { MatchOption result
             (document_place (documents_in self.now) doc_type.now ≡ None)
             (λ d. IsAt (documents_in self.now) doc_type.now (document_of d)) }
-        ensures lies { IfSome result (λ d. LiesIn (whole_file self.now) (document_part d)) }
+        ensures stands_in { IfSome result (λ d. LiesIn (whole_file self.now) (document_part d)) }
     {
         for stored in self.stored_documents() {
             let document = Document { stored };

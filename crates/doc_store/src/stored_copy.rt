@@ -51,7 +51,7 @@ impl<'a> StoredCopy<'a> {
     pub fn issuer_auth(&self) -> View<'a>
         ensures stored { (part result).bytes ≡ (copy_of self.now).issuer_auth }
         ensures four { option_map length (items_in (part result)) ≡ Some 4 }
-        ensures lies { LiesIn (copy_part self.now) (part result) }
+        ensures stands_in { LiesIn (copy_part self.now) (part result) }
     {
         match read_issuer_auth(&self.stored) {
             Some(auth) => auth,
@@ -64,7 +64,7 @@ impl<'a> StoredCopy<'a> {
     #[tactic(auto, using(crate::proofs::HeldItems::held_all_step))]
     pub fn item(&self, ns: &str, name: &str) -> Option<&'a [u8]>
         ensures exact { option_map (λ b. b.now) result ≡ held (copy_of self.now) ns.now name.now }
-        ensures lies { IfSome result (λ b. IsPart (copy_part self.now).bytes b.now) }
+        ensures stands_in { IfSome result (λ b. IsPart (copy_part self.now).bytes b.now) }
     {
         for (space, items) in self.spaces() {
             match find_in_space(&space, &items, ns, name) {

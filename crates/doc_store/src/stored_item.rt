@@ -5,13 +5,12 @@ ghost use Rattle.cbor_view.specs.View.{part};
 ghost use Rattle.cbor_view.specs.PartialView.{partial_item};
 ghost use Rattle.doc_store.specs.Faults.{cut_item, first_fault, item_faults, item_name, value_limit};
 
-use crate::first_fault::{Fault, sooner};
+use crate::first_fault::{Fault, earlier};
 use crate::kind_faults::{fault, is_broken, name_limit, other_kind};
-use crate::limits::MOST_VALUE_BYTES;
 use crate::{ItemFault, StoreCheck};
 use cbor_view::{ENCODED, PartialView, View};
 use issuer_items::Item;
-use mdoc_outside::LimitName;
+use mdoc_outside::{LimitName, MOST_VALUE_BYTES};
 
 /// A value that is too long.
 fn value_limit(at: &PartialView<'_>, value: &View<'_>) -> Option<Fault>
@@ -49,7 +48,7 @@ pub(crate) fn fault_and_name<'a>(item: &PartialView<'a>) -> (Option<Fault>, Opti
     match Item::read(raw.raw()) {
         Ok(read) => {
             let name = read.name();
-            let limit = sooner(name_limit(item, name), value_limit(item, &read.value()));
+            let limit = earlier(name_limit(item, name), value_limit(item, &read.value()));
             (limit, Some(name))
         }
         Err(wrong) => (Some(fault(StoreCheck::Item(wrong), item)), None),

@@ -14,12 +14,12 @@ use Rattle.doc_request.specs.declared.doc_draft.DocDraft.{DocDraft}
 use Rattle.doc_request.specs.declared.wish_draft.WishDraft.{WishDraft}
 use Rattle.doc_store.specs.Held.{Place, chosen, document_place, item_at, place_at, place_of}
 use Rattle.doc_store.specs.Store.{Copy, Document as Stored, Store}
-use Rattle.mdoc_program.specs.Core as core
-use Rattle.mdoc_program.specs.Released as program
-use Rattle.mdoc_program.proofs.AgreeLemmas.{answer-place}
-use Rattle.wallet_model.specs.Released.{Choice, ReleasedItem, ShownCopy, choice, choice_of, choice_with, item_for, item_of, named, place_in, refused, released, shown_copy, stored_place, wish_for, wishes_of}
+use Rattle.mdoc_draft.specs.Core as core
+use Rattle.mdoc_draft.specs.Released as program
+use Rattle.mdoc_draft.proofs.AgreeLemmas.{answer-place}
+use Rattle.wallet_model.specs.Released.{ReleasedDocument, ReleasedItem, ShownCopy, choice, choice_of, choice_with, item_for, item_of, named, place_in, refused, released, shown_copy, stored_place, wish_for, wishes_of}
 use Rattle.wallet_model.specs.Setup.{Setup}
-use Rattle.released_laws.proofs.Places.{ShownAt, shown_at}
+use Rattle.wallet_laws.proofs.Places.{ShownAt, shown_at}
 use Rattle.draft_laws.specs.AsWallet.{AreAnsweredAlike, ShowsChosen, items_released, places_released}
 
 -- ---- the copy
@@ -159,7 +159,7 @@ places_shown W reader doc_type shown shows at copy (draft ∷ wishes) =
 
 -- ---- a document
 
-abbrev AsWallet : Setup → Option (List ℕ) → DocDraft → Option Choice → Type 0
+abbrev AsWallet : Setup → Option (List ℕ) → DocDraft → Option ReleasedDocument → Type 0
 AsWallet W reader draft found =
     ((core.answered W.rules reader W.store draft).items ≡ items_released found)
     × IfSome found (λ c. (core.answered W.rules reader W.store draft).missing ≡ c.answered.missing)
@@ -172,7 +172,7 @@ with_items : (doc_type : List ℕ) (shown : ShownCopy) (missing : List (List ℕ
 with_items doc_type shown missing [] = (refl, tt, refl)
 with_items doc_type shown missing (item ∷ items) = (refl, refl, refl)
 
-if_missing : (found : Option Choice) (one other : List (List ℕ × List ℕ)) → one ≡ other → IfSome found (λ c. other ≡ c.answered.missing) → IfSome found (λ c. one ≡ c.answered.missing)
+if_missing : (found : Option ReleasedDocument) (one other : List (List ℕ × List ℕ)) → one ≡ other → IfSome found (λ c. other ≡ c.answered.missing) → IfSome found (λ c. one ≡ c.answered.missing)
 if_missing None one other same is = tt
 if_missing (Some c) one other same is = same ∙ is
 

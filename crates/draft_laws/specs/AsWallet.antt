@@ -4,9 +4,9 @@ use Rattle.std.specs.Prelude.{◌≡◌, ℕ, List, [], ◌∷◌, map, Option, 
 use Rattle.doc_request.specs.Asked.{Document}
 use Rattle.doc_request.specs.declared.doc_draft.DocDraft.{DocDraft}
 use Rattle.doc_store.specs.Held.{chosen}
-use Rattle.mdoc_program.specs.Core.{answered}
-use Rattle.mdoc_program.specs.Released.{released_places}
-use Rattle.wallet_model.specs.Released.{Choice, choice, stored_place}
+use Rattle.mdoc_draft.specs.Core.{answered}
+use Rattle.mdoc_draft.specs.Released.{released_places}
+use Rattle.wallet_model.specs.Released.{ReleasedDocument, choice, stored_place}
 use Rattle.wallet_model.specs.Setup.{Setup}
 use Rattle.wallet_model.specs.declared.released_at.ReleasedAt.{ReleasedAt}
 
@@ -15,11 +15,11 @@ abbrev pub ShowsChosen : Setup → Type 0
 ShowsChosen W = W.choice ≡ map chosen W.store
 
 -- the items that are released of a document, and their places; none where nothing is
-abbrev pub items_released : Option Choice → List (List ℕ × List ℕ)
+abbrev pub items_released : Option ReleasedDocument → List (List ℕ × List ℕ)
 items_released None = []
 items_released (Some found) = found.answered.items
 
-abbrev pub places_released : Option Choice → List ReleasedAt
+abbrev pub places_released : Option ReleasedDocument → List ReleasedAt
 places_released None = []
 places_released (Some found) = found.places
 

@@ -1,3 +1,4 @@
 pub mod Appended
 pub mod UriLemmas
 pub mod WrittenReads
+pub mod TextLemmas

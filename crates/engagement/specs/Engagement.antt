@@ -4,22 +4,16 @@ use Rattle.std.specs.List.{starts_with}
 use Rattle.std.specs.Ordering.{int_eq}
 use Rattle.mdoc_outside.specs.ResultSteps.{◌>>=◌, or_fault}
 use Rattle.cbor_view.specs.declared.cbor_fault.CborFault.{CborFault}
-use Rattle.cbor_view.specs.declared.doubled.Doubled as views
 use Rattle.cbor_view.specs.Parts.{Part, cbor, items_in, text_in, tree_in}
 use Rattle.cbor_view.specs.Tree.{int_of}
 use Rattle.cbor_maps.specs.Labels.{labelled}
-use Rattle.cbor_maps.specs.Reading.{encoded_in}
+use Rattle.cbor_maps.specs.Reading.{encoded_in, once}
 use Rattle.cose_msgs.specs.declared.key_fault.KeyFault.{KeyFault}
 use Rattle.cose_msgs.specs.Key.{key_of}
 use Rattle.cose_msgs.specs.Steps.{check}
 use Rattle.key_device.specs.declared.point.Point.{Point}
 use Rattle.engagement.specs.declared.engage_fault.EngageFault.{EngageFault}
 use Rattle.engagement.specs.declared.engage_fault.EngageFault.TheVariants.{Cbor, Doubled, Field, Version, Suite, Key}
-
--- what is under a key that may be there once
-abbrev pub once : Result (Option Part) views.Doubled → Result (Option Part) EngageFault
-once (Ok found) = Ok found
-once (Err twice) = Err Doubled
 
 -- the version, a text under key 0
 abbrev pub version_in : Option Part → Result (List ℕ) EngageFault
@@ -66,9 +60,9 @@ key_fault (Err fault) = Err (Key fault)
 -- Version, security and retrieval methods are there once at most; the methods aren't looked at.
 abbrev pub of_map : Part → Result Point EngageFault
 of_map map = do
-  found ← once (labelled map (pos 0))
-  secured ← once (labelled map (pos 1))
-  methods ← once (labelled map (pos 2))
+  found ← once Doubled (labelled map (pos 0))
+  secured ← once Doubled (labelled map (pos 1))
+  methods ← once Doubled (labelled map (pos 2))
   version ← version_in found
   security ← needed_security secured
   of_edition ← check Version (is_edition_1 version)

@@ -1,9 +1,11 @@
 // A device engagement.
 ghost use Rattle.std.specs.Prelude.{◌≡◌, IfOk, option_map};
+ghost use Rattle.cbor_maps.specs.Reading.{once};
 ghost use Rattle.cbor_view.specs.Reading.{Gives};
 ghost use Rattle.cbor_view.specs.View.{part};
 ghost use Rattle.cbor_maps.specs.Labels.{labelled};
-ghost use Rattle.engagement.specs.Engagement.{engagement, is_edition_1, of_map, once, version_in};
+ghost use Rattle.engagement.specs.declared.engage_fault.EngageFault.TheVariants.{Doubled};
+ghost use Rattle.engagement.specs.Engagement.{engagement, is_edition_1, of_map, version_in};
 
 use crate::EngageFault;
 use crate::security::Security;
@@ -84,7 +86,7 @@ fn of_map(map: View<'_>) -> Result<Point, EngageFault>
 /// What is under a key that may be there once.
 #[tactic(auto, unfolding(cbor_maps::specs::Labels::labelled))]
 fn once(map: View<'_>, label: i64) -> Result<Option<View<'_>>, EngageFault>
-    ensures { Gives (option_map part) result (once (labelled (part map.entry) label)) }
+    ensures { Gives (option_map part) result (once Doubled (labelled (part map.entry) label)) }
 {
     match map.entry(Key::Int(label)) {
         Ok(found) => Ok(found),

@@ -1,9 +1,9 @@
 //! Writing of an engagement.
 
 ghost use Rattle.std.specs.Prelude.{◌≡◌, ◌<◌, ◌^◌, IfOk, OnOk, Ok, Some, codes, length, option_map, pos};
+ghost use Rattle.mdoc_outside.specs.Borrowed.{content};
 ghost use Rattle.cbor_view.specs.Shortest.{text_bytes};
 ghost use Rattle.cbor_maps.specs.Labels.{put_labelled};
-ghost use Rattle.cose_msgs.specs.MessageView.{content};
 ghost use Rattle.cose_msgs.specs.Key.{key_of};
 ghost use Rattle.cose_msgs.specs.Written.{IsReadAs, key_bytes};
 ghost use Rattle.engagement.specs.Engagement.{engagement};
@@ -84,7 +84,7 @@ fn write_methods(alloc: Global, uuid: &[u8; 16]) -> Result<Octets, Memory>
 
 /// Appends the version and the security.
 #[tactic(auto, unfolding(cbor_maps::specs::Labels::label_bytes))]
-fn put_needed(out: &mut Build, security: &[u8]) -> Result<(), Memory>
+fn append_needed(out: &mut Build, security: &[u8]) -> Result<(), Memory>
     ensures { OnOk result (out.new ≡ put_labelled (put_labelled out.old (pos 0) (Some (text_bytes (codes "1.0")))) (pos 1) (Some security.now)) }
 {
     out.int(VERSION)?;
@@ -111,14 +111,14 @@ pub fn write_engagement(
         Some(uuid) => {
             let methods = write_methods(alloc, uuid)?;
             out.map(3)?;
-            put_needed(&mut out, security.as_slice())?;
+            append_needed(&mut out, security.as_slice())?;
             out.int(RETRIEVAL_METHODS)?;
             out.append(methods.as_slice())?;
             Ok(out.finish())
         }
         None => {
             out.map(2)?;
-            put_needed(&mut out, security.as_slice())?;
+            append_needed(&mut out, security.as_slice())?;
             Ok(out.finish())
         }
     }

@@ -1,8 +1,8 @@
 -- How the talk of a run follows checks one after the other.
 use Rattle.std.proofs.Common.{◌≡◌, List, Bool, true, false, Option, Some, None, Result, Ok, Err, subst, sym}
 use Rattle.issuer_checks.specs.Ending.{came_to}
-use Rattle.issuer_checks.specs.declared.stop.Stop as read
-use Rattle.issuer_checks.specs.declared.stop.Stop.TheVariants as stops
+use Rattle.issuer_checks.specs.declared.check_end.CheckEnd as read
+use Rattle.issuer_checks.specs.declared.check_end.CheckEnd.TheVariants as stops
 use Rattle.key_device.proofs.PlanLemmas.{then_more, cut_short, ended}
 use Rattle.key_device.specs.Plan.{Plan, Done, Follows}
 use Rattle.key_device.specs.PlanSteps.{◌>>=◌, unless_fault}
@@ -46,7 +46,7 @@ pub answered : {A : Type 0} {p : Plan A} {a : A} (talk : List Exchange) → p �
 answered {a = a} talk is = subst (λ plan. Follows plan talk talk (Some a)) (sym is) (ended talk)
 
 -- What ends the first of two ends both.
-pub stopped : {A B X Y : Type 0} (view : X → A) (other : Y → B) {p : Plan (Result A Stop)} (f : A → Plan (Result B Stop)) {old new : List Exchange} (stop : read.Stop)
+pub stopped : {A B X Y : Type 0} (view : X → A) (other : Y → B) {p : Plan (Result A Stop)} (f : A → Plan (Result B Stop)) {old new : List Exchange} (stop : read.CheckEnd)
     → Follows p old new (came_to view (Err stop)) → Follows (p >>= f) old new (came_to other (Err stop))
 stopped view other f {old} {new} (stops.Refused check) first = then_more (unless_fault f) first (ended new)
 stopped view other f {old} {new} stops.Device first = then_more (unless_fault f) first (ended new)

@@ -1,10 +1,11 @@
 -- Each digest of an object that was read has the length of one of SHA-256.
 use Rattle.std.proofs.Common.{◌≡◌, ℕ, List, Bool, true, false, Result, Ok, Err, refl, subst}
 use Rattle.mdoc_outside.specs.ResultSteps.{◌>>=◌}
+use Rattle.cbor_maps.specs.Reading.{map_fault, tagged_string, spelled_item}
 use Rattle.cbor_view.specs.Parts.{Part, cbor}
 use Rattle.cose_msgs.specs.Steps.{check}
 use Rattle.mso_digests.specs.Digests.{digests_in, have_length}
-use Rattle.mso_digests.specs.Object.{Contents, Object, contents_of, distinct_keys, is_sha256, is_version, map_fault, moments_of, object, object_of_map, object_with, spelled_item, tagged_string}
+use Rattle.mso_digests.specs.Object.{Contents, Object, contents_of, distinct_keys, is_sha256, is_version, moments_of, object, object_of_map, object_with}
 use Rattle.mso_digests.specs.declared.mso_fault.MsoFault.{MsoFault}
 use Rattle.mso_digests.specs.declared.mso_fault.MsoFault.TheVariants as faults
 
@@ -38,13 +39,13 @@ lengths_with c o is =
 
 lengths_of_map : (map : Part) (o : Object) → object_of_map map ≡ Ok o → have_length o.digests ≡ true
 lengths_of_map map o is =
-    let distinct = passed (map_fault (distinct_keys map)) _ o is in
-    let contents = passed (map_fault (contents_of map)) _ o distinct.rest in
+    let distinct = passed (map_fault faults.Doubled faults.Field (distinct_keys map)) _ o is in
+    let contents = passed (map_fault faults.Doubled faults.Field (contents_of map)) _ o distinct.rest in
     lengths_with contents.value o contents.rest
 
 pub lengths_read : (payload : List ℕ) (o : Object) → object payload ≡ Ok o → have_length o.digests ≡ true
 unfolding object
 lengths_read payload o is =
-    let inside = passed (tagged_string (cbor payload)) _ o is in
-    let map = passed (spelled_item (cbor inside.value)) _ o inside.rest in
+    let inside = passed (tagged_string faults.Cbor (cbor payload)) _ o is in
+    let map = passed (spelled_item (λ other. faults.Cbor) (cbor inside.value)) _ o inside.rest in
     lengths_of_map map.value o map.rest

@@ -5,17 +5,18 @@ use Rattle.std.specs.Str.{bytes_eq}
 use Rattle.cbor_view.specs.Parts.{Part}
 use Rattle.cert_view.specs.declared.root.Root.{Root}
 use Rattle.cose_msgs.specs.Structures.{signed_structure}
-use Rattle.doc_request.specs.Known.{verified}
+use Rattle.key_device.specs.Questions.{verified}
 use Rattle.key_device.specs.Plan.{Plan, Done}
 use Rattle.key_device.specs.PlanSteps.{◌>>=◌ as ◌>>!◌}
+use Rattle.key_device.specs.declared.device_fault.DeviceFault.TheVariants.{Failed}
 use Rattle.mso_digests.specs.Object.{Object, object}
-use Rattle.verdict_model.specs.Issued.{Signer, object_of, signer_of, timely}
+use Rattle.verdict_model.specs.IssuerStatement.{Signer, object_of, signer_of, timely}
 use Rattle.verdict_model.specs.Steps.{Stop, asked_of_device, check_that, needed}
 use Rattle.verdict_model.specs.declared.doc_check.DocCheck.TheVariants as checks
 
 -- whether the signer signed the payload
 abbrev pub is_issued : Signer → Plan (Result Bool Stop)
-is_issued signer = asked_of_device (verified signer.cert.tbs.key (signed_structure signer.auth.signed.protected signer.auth.payload) signer.auth.signed.signature)
+is_issued signer = asked_of_device (verified Failed signer.cert.tbs.key (signed_structure signer.auth.signed.protected signer.auth.payload) signer.auth.signed.signature)
 
 -- what is looked at of the object after that, which asks nothing
 abbrev pub object_checks : ℤ → List ℕ → Signer → Plan (Result Object Stop)

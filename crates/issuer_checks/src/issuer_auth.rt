@@ -3,7 +3,7 @@
 ghost use Rattle.std.specs.Prelude.{◌≡◌, option_map};
 ghost use Rattle.cbor_view.specs.View.{part};
 ghost use Rattle.cert_view.specs.Cert.{fields};
-ghost use Rattle.verdict_model.specs.Issued.{issuer_auth, signer_certificate};
+ghost use Rattle.verdict_model.specs.IssuerStatement.{issuer_auth, signer_certificate};
 
 use cbor_view::View;
 use cert_view::Cert;

@@ -5,18 +5,18 @@
 //! definition's over what was told: the object and the device key, or the first check that fails.
 #![tactic(auto)]
 
-mod issued;
+mod check_end;
 mod issuer_auth;
+mod issuer_statement;
 mod object;
 mod questions;
 mod roots;
 mod sharing;
 mod signer;
-mod stop;
-mod trust;
+mod trusted_roots;
 
-pub use issued::{Issued, issuer_says};
-pub use questions::is_signed;
+pub use check_end::CheckEnd;
+pub use issuer_statement::{IssuerStatement, issuer_says};
+pub use questions::ask_signed;
 pub use sharing::types_are_send_and_sync;
-pub use stop::Stop;
-pub use trust::Trust;
+pub use trusted_roots::TrustedRoots;

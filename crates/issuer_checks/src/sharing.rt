@@ -1,17 +1,14 @@
 //! What may be handed to another thread and shared with it.
 
-use crate::{Issued, Stop, Trust};
-
-fn is_send<T: Send>() {}
-
-fn is_sync<T: Sync>() {}
+use crate::{CheckEnd, IssuerStatement, TrustedRoots};
+use mdoc_outside::{is_send, is_sync};
 
 /// What an issuer is believed by, and what it says, may be handed to another thread, and shared with it.
 pub fn types_are_send_and_sync() {
-    is_send::<Trust<'static>>();
-    is_sync::<Trust<'static>>();
-    is_send::<Issued<'static>>();
-    is_sync::<Issued<'static>>();
-    is_send::<Stop>();
-    is_sync::<Stop>();
+    is_send::<TrustedRoots<'static>>();
+    is_sync::<TrustedRoots<'static>>();
+    is_send::<IssuerStatement<'static>>();
+    is_sync::<IssuerStatement<'static>>();
+    is_send::<CheckEnd>();
+    is_sync::<CheckEnd>();
 }

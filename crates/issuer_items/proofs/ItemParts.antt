@@ -9,11 +9,11 @@ use Rattle.cbor_view.specs.Parts.{Part, cbor, part_of, uint_in, bytes_in, text_i
 use Rattle.cbor_maps.specs.declared.map_fault.MapFault.{MapFault}
 use Rattle.cbor_maps.specs.declared.map_fault.MapFault.TheVariants as maps
 use Rattle.cbor_maps.specs.Contents.{IsPart}
-use Rattle.cbor_maps.specs.Reading.{distinct, field, any_in, encoded_in}
+use Rattle.cbor_maps.specs.Reading.{distinct, field, any_in, encoded_in, map_fault, tagged_string, spelled_item}
 use Rattle.cbor_maps.proofs.Within.{step, part-within, lies-part, under-lies, field-read, bytes-under, text-under, tagged-part}
 use Rattle.issuer_items.specs.declared.item_fault.ItemFault.{ItemFault}
 use Rattle.issuer_items.specs.declared.item_fault.ItemFault.TheVariants as faults
-use Rattle.issuer_items.specs.Item.{Item, item, item_of_map, map_fault, tagged_string, spelled_item}
+use Rattle.issuer_items.specs.Item.{Item, item, item_of_map}
 use Rattle.issuer_items.specs.ItemView.{AreParts}
 
 abbrev last : ℕ → List ℕ → List ℕ → Part → Result Item MapFault
@@ -60,12 +60,12 @@ whole-bytes : (bytes : List ℕ) (r : Result Tree CborFault) (p : Part) → part
 whole-bytes bytes (Ok t) p e = let f : Part → List ℕ = λ q. q.bytes in let same : record { at = 0; bytes = bytes } ≡ p = cc in ap f same
 whole-bytes bytes (Err fault) p e = absurd (cc)
 
-fault-ok : (r : Result Item MapFault) (it : Item) → map_fault r ≡ Ok it → r ≡ Ok it
+fault-ok : (r : Result Item MapFault) (it : Item) → map_fault faults.Doubled faults.Field r ≡ Ok it → r ≡ Ok it
 fault-ok (Ok x) it e = cc
 fault-ok (Err (maps.Doubled name)) it e = absurd (cc)
 fault-ok (Err (maps.Field name)) it e = absurd (cc)
 
-inside-part : (raw : List ℕ) (r : Result Part CborFault) (inside : List ℕ) → cbor raw ≡ r → tagged_string r ≡ Ok inside → IsPart raw inside
+inside-part : (raw : List ℕ) (r : Result Part CborFault) (inside : List ℕ) → cbor raw ≡ r → tagged_string faults.NotTagged r ≡ Ok inside → IsPart raw inside
 inside-part raw (Err fault) inside read e = absurd (cc)
 inside-part raw (Ok whole) inside read e = go (encoded_in whole) refl e where
   go : (o : Option (List ℕ)) → encoded_in whole ≡ o → or_fault faults.NotTagged o ≡ Ok inside → IsPart raw inside
@@ -75,20 +75,20 @@ inside-part raw (Ok whole) inside read e = go (encoded_in whole) refl e where
       let part = subst (λ (x : List ℕ). IsPart x b) (sym (whole-bytes raw (reads raw) whole read)) (tagged-part 24 whole b is) in
       subst (IsPart raw) same part
 
-map-bytes : (inside : List ℕ) (r : Result Part CborFault) (map : Part) → cbor inside ≡ r → spelled_item r ≡ Ok map → inside ≡ map.bytes
+map-bytes : (inside : List ℕ) (r : Result Part CborFault) (map : Part) → cbor inside ≡ r → spelled_item faults.Cbor r ≡ Ok map → inside ≡ map.bytes
 map-bytes inside (Err fault) map read e = absurd (cc)
 map-bytes inside (Ok p) map read e = let f : Part → List ℕ = λ q. q.bytes in let same : p ≡ map = cc in whole-bytes inside (reads inside) p read ∙ ap f same
 
 abbrev from_map : Part → Result Item ItemFault
-from_map map = map_fault (item_of_map map)
+from_map map = map_fault faults.Doubled faults.Field (item_of_map map)
 
 abbrev from_inside : List ℕ → Result Item ItemFault
-from_inside inside = spelled_item (cbor inside) >>= from_map
+from_inside inside = spelled_item faults.Cbor (cbor inside) >>= from_map
 
 pub item-parts : (raw : List ℕ) (it : Item) → item raw ≡ Ok it → AreParts raw it
 unfolding item
 item-parts raw it e =
-    let a = step (tagged_string (cbor raw)) from_inside it e in
-    let b = step (spelled_item (cbor a.value)) from_map it a.after in
+    let a = step (tagged_string faults.NotTagged (cbor raw)) from_inside it e in
+    let b = step (spelled_item faults.Cbor (cbor a.value)) from_map it a.after in
     let parts = map-parts b.value it (fault-ok (item_of_map b.value) it b.after) in
     parts-within raw a.value it (inside-part raw (cbor raw) a.value refl a.is) (subst (λ (x : List ℕ). AreParts x it) (sym (map-bytes a.value (cbor a.value) b.value refl b.is)) parts)

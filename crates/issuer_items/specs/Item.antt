@@ -2,12 +2,10 @@
 -- first check that fails.
 use Rattle.std.specs.Prelude.{ℕ, List, [], ◌∷◌, Result, Ok, Err}
 use Rattle.mdoc_outside.specs.declared.key_name.KeyName.TheVariants as keys
-use Rattle.mdoc_outside.specs.ResultSteps.{◌>>=◌, or_fault}
-use Rattle.cbor_view.specs.declared.cbor_fault.CborFault.{CborFault}
+use Rattle.mdoc_outside.specs.ResultSteps.{◌>>=◌}
 use Rattle.cbor_view.specs.Parts.{Part, cbor, uint_in, bytes_in, text_in}
 use Rattle.cbor_maps.specs.declared.map_fault.MapFault.{MapFault}
-use Rattle.cbor_maps.specs.declared.map_fault.MapFault.TheVariants as maps
-use Rattle.cbor_maps.specs.Reading.{distinct, field, any_in, encoded_in}
+use Rattle.cbor_maps.specs.Reading.{distinct, field, any_in, map_fault, tagged_string, spelled_item}
 use Rattle.issuer_items.specs.declared.item_fault.ItemFault.{ItemFault}
 use Rattle.issuer_items.specs.declared.item_fault.ItemFault.TheVariants.{NotTagged, Cbor, Doubled, Field}
 
@@ -28,23 +26,9 @@ item_of_map map = do
   value ← field keys.ElementValue any_in map
   Ok (record { digest_id = digest_id; random = random; name = name; value = value.bytes })
 
-abbrev pub map_fault : {A : Type 0} → Result A MapFault → Result A ItemFault
-map_fault (Ok value) = Ok value
-map_fault (Err (maps.Doubled name)) = Err (Doubled name)
-map_fault (Err (maps.Field name)) = Err (Field name)
-
--- the string of bytes under tag 24 that all of the bytes are
-abbrev pub tagged_string : Result Part CborFault → Result (List ℕ) ItemFault
-tagged_string (Ok whole) = or_fault NotTagged (encoded_in whole)
-tagged_string (Err fault) = Err NotTagged
-
--- the item of CBOR that the string spells
-abbrev pub spelled_item : Result Part CborFault → Result Part ItemFault
-spelled_item (Ok map) = Ok map
-spelled_item (Err fault) = Err (Cbor fault)
-
+-- what all of the bytes are: the string under tag 24, and the item of CBOR that it spells
 unfoldable pub item : List ℕ → Result Item ItemFault
 item raw = do
-  inside ← tagged_string (cbor raw)
-  map ← spelled_item (cbor inside)
-  map_fault (item_of_map map)
+  inside ← tagged_string NotTagged (cbor raw)
+  map ← spelled_item Cbor (cbor inside)
+  map_fault Doubled Field (item_of_map map)

@@ -30,7 +30,7 @@ impl<'a> Item<'a> {
     pub fn read(raw: &'a [u8]) -> Result<Item<'a>, ItemFault>
         ensures exact { Gives fields result (item raw.now) }
         ensures raw { IfOk result (λ it. raw_of it ≡ raw.now) }
-        ensures lies { IfOk result (λ it. AreParts raw.now (fields it)) }
+        ensures stands_in { IfOk result (λ it. AreParts raw.now (fields it)) }
     {
         let Ok(whole) = View::read(raw) else {
             return Err(ItemFault::NotTagged);

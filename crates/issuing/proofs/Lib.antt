@@ -1,9 +1,9 @@
-pub mod SpecElementLemmas
-pub mod SpecForms
-pub mod SpecHeaderLemmas
-pub mod SpecLaws
-pub mod SpecMandatory
-pub mod SpecNamespaceLemmas
-pub mod SpecPrefix
-pub mod SpecTimes
-pub mod SpecValues
+pub mod IssueLemmas
+pub mod ElementLemmas
+pub mod ItemLemmas
+mod ItemLengths
+mod MadeCopies
+pub mod ObjectLemmas
+mod CopyLemmas
+mod GroupLemmas
+pub mod LimitLemmas

@@ -1,31 +1,33 @@
-//! Issuing of mobile driving licences (ISO/IEC 18013-5, 9.1.2): from a readable description to the
-//! documents of a store.
+//! Issuing (ISO/IEC 18013-5, 9.1.2): a package of copies of a licence, each with a key of the holder's device, salts from dice,
+//! and a security object that the document signer signed.
 //!
-//! The one contract on the description: what is read is what the definition of a spec file gives, or its
-//! first fault in the stated order of checks.
+//! The one contract: `issue` follows its plan over the questions to both key devices and the words of the dice, and gives the
+//! package of the spec; a fault is reported only where that object's count of faults rose, and a limit exactly where it is
+//! exceeded.
 #![tactic(auto)]
 
-mod spec;
-mod spec_check;
-mod spec_element;
-mod spec_element_checks;
-mod spec_fault;
-mod spec_fields;
-mod spec_header;
-mod spec_header_lines;
-mod spec_headers;
-mod spec_laws;
-mod spec_line;
-mod spec_lines;
-mod spec_reading;
-mod spec_signer;
-mod spec_values;
-mod spec_whole_checks;
-mod spec_words;
+mod copies;
+mod copy_room;
+mod digests;
+mod drafts;
+mod grouped_items;
+mod issue_fault;
+mod issued;
+mod issued_item;
+mod items;
+mod laws;
+mod namespaces;
+mod objects;
+mod package_room;
+mod packages;
+mod prepared;
+mod salts;
+mod signed_copy;
+mod signer;
+mod signers;
 
-pub use spec::Spec;
-pub use spec_check::SpecCheck;
-pub use spec_element::SpecElement;
-pub use spec_fault::SpecFault;
-pub use spec_laws::fault_of_lines_stays;
-pub use spec_signer::SpecSigner;
+pub use issue_fault::IssueFault;
+pub use issue_spec::{Spec, SpecFault};
+pub use issued::Issued;
+pub use laws::object_of_a_copy_is_made_from_its_items;
+pub use packages::issue;

@@ -1,6 +1,6 @@
 -- How plans over two devices and dice join, and how the talks and words of a run follow them.
 use Rattle.std.proofs.Common.{◌≡◌, ℕ, List, [], ◌∷◌, ◌++◌, Option, Some, None, refl, sym, ◌∙◌, ap, subst, append_assoc, append-nil}
-use Rattle.key_device.specs.Plan.{Plan, Done, Then, Other, Draw, bind, of_other, Walks, Begins, Starves, Fits, End, Came, Undealt, Wanting, end_of, Follows, FollowsAll}
+use Rattle.key_device.specs.Plan.{Plan, Done, Then, Other, Draw, bind, of_other, Walks, Begins, Starves, Fits, End, Finished, OutOfWords, OutOfMemory, end_of, Follows, FollowsAll}
 use Rattle.key_device.specs.Recording.{exchange}
 use Rattle.key_device.specs.declared.ask.Ask.{Ask}
 use Rattle.key_device.specs.declared.exchange.Exchange.{Exchange}
@@ -18,25 +18,25 @@ fits_bind {A} {B} (Then ask next) f (e ∷ es) os ws es' os' ws' a end first sec
     step end (fits_bind (next e.told) f es os ws es' os' ws' a end first.1 second)
   where
     step : (t : End B) → Fits (bind (next e.told) f) (es ++ es') (os ++ os') (ws ++ ws') t → Fits (bind (Then ask next) f) ((e ∷ es) ++ es') (os ++ os') (ws ++ ws') t
-    step (Came b) rest = (first.0, rest)
-    step Undealt rest = (first.0, rest)
-    step Wanting rest = (first.0, rest)
+    step (Finished b) rest = (first.0, rest)
+    step OutOfWords rest = (first.0, rest)
+    step OutOfMemory rest = (first.0, rest)
 fits_bind (Other ask next) f es [] ws es' os' ws' a end first second = absurd first
 fits_bind {A} {B} (Other ask next) f es (o ∷ os) ws es' os' ws' a end first second =
     step end (fits_bind (next o.told) f es os ws es' os' ws' a end first.1 second)
   where
     step : (t : End B) → Fits (bind (next o.told) f) (es ++ es') (os ++ os') (ws ++ ws') t → Fits (bind (Other ask next) f) (es ++ es') ((o ∷ os) ++ os') (ws ++ ws') t
-    step (Came b) rest = (first.0, rest)
-    step Undealt rest = (first.0, rest)
-    step Wanting rest = (first.0, rest)
+    step (Finished b) rest = (first.0, rest)
+    step OutOfWords rest = (first.0, rest)
+    step OutOfMemory rest = (first.0, rest)
 fits_bind (Draw next) f es os [] es' os' ws' a end first second = absurd first
 fits_bind {A} {B} (Draw next) f es os (w ∷ ws) es' os' ws' a end first second =
     step end (fits_bind (next w) f es os ws es' os' ws' a end first second)
   where
     step : (t : End B) → Fits (bind (next w) f) (es ++ es') (os ++ os') (ws ++ ws') t → Fits (bind (Draw next) f) (es ++ es') (os ++ os') ((w ∷ ws) ++ ws') t
-    step (Came b) rest = rest
-    step Undealt rest = rest
-    step Wanting rest = rest
+    step (Finished b) rest = rest
+    step OutOfWords rest = rest
+    step OutOfMemory rest = rest
 
 -- no question yet
 pub begins_nothing : {A : Type 0} (p : Plan A) → Begins p [] [] []
@@ -92,7 +92,7 @@ begins_whole (Draw next) es os (w ∷ ws) a walk = begins_whole (next w) es os w
 -- What the run of a function that asks two devices and dice shows, at each exit: its first part came
 -- to an outcome, and the rest follows what that calls for;
 pub all_more : {A B : Type 0} {p : Plan A} (f : A → Plan B) {one other one' other' one'' other'' : List Exchange} {dealt dealt' dealt'' : List ℕ} {a : A} {end : End B}
-    → FollowsAll p one other dealt one' other' dealt' (Came a) → FollowsAll (f a) one' other' dealt' one'' other'' dealt'' end
+    → FollowsAll p one other dealt one' other' dealt' (Finished a) → FollowsAll (f a) one' other' dealt' one'' other'' dealt'' end
     → FollowsAll (bind p f) one other dealt one'' other'' dealt'' end
 all_more {A} {B} {p} f {one} {other} {one'} {other'} {one''} {other''} {dealt} {dealt'} {dealt''} {a} {end} first second = record {
   gained = first.gained ++ second.gained;
@@ -106,7 +106,7 @@ all_more {A} {B} {p} f {one} {other} {one'} {other'} {one''} {other''} {dealt} {
 
 -- its first part wanted memory;
 pub all_cut : {A B : Type 0} {p : Plan A} (f : A → Plan B) {one other one' other' : List Exchange} {dealt dealt' : List ℕ}
-    → FollowsAll p one other dealt one' other' dealt' Wanting → FollowsAll (bind p f) one other dealt one' other' dealt' Wanting
+    → FollowsAll p one other dealt one' other' dealt' OutOfMemory → FollowsAll (bind p f) one other dealt one' other' dealt' OutOfMemory
 all_cut {p = p} f first = record {
   gained = first.gained;
   joined = first.joined;
@@ -119,7 +119,7 @@ all_cut {p = p} f first = record {
 
 -- its plan was followed to an outcome, and memory was wanting then;
 pub all_halted : {A : Type 0} {p : Plan A} {one other one' other' : List Exchange} {dealt dealt' : List ℕ} {a : A}
-    → FollowsAll p one other dealt one' other' dealt' (Came a) → FollowsAll p one other dealt one' other' dealt' Wanting
+    → FollowsAll p one other dealt one' other' dealt' (Finished a) → FollowsAll p one other dealt one' other' dealt' OutOfMemory
 all_halted {p = p} {a = a} first = record {
   gained = first.gained;
   joined = first.joined;
@@ -132,7 +132,7 @@ all_halted {p = p} {a = a} first = record {
 
 -- its first part lacked a word;
 pub all_undealt : {A B : Type 0} {p : Plan A} (f : A → Plan B) {one other one' other' : List Exchange} {dealt dealt' : List ℕ}
-    → FollowsAll p one other dealt one' other' dealt' Undealt → FollowsAll (bind p f) one other dealt one' other' dealt' Undealt
+    → FollowsAll p one other dealt one' other' dealt' OutOfWords → FollowsAll (bind p f) one other dealt one' other' dealt' OutOfWords
 all_undealt {p = p} f first = record {
   gained = first.gained;
   joined = first.joined;
@@ -144,7 +144,7 @@ all_undealt {p = p} f first = record {
 }
 
 -- there was nothing to ask;
-pub all_ended : {A : Type 0} {a : A} (one other : List Exchange) (dealt : List ℕ) → FollowsAll (Done a) one other dealt one other dealt (Came a)
+pub all_ended : {A : Type 0} {a : A} (one other : List Exchange) (dealt : List ℕ) → FollowsAll (Done a) one other dealt one other dealt (Finished a)
 all_ended one other dealt = record {
   gained = [];
   joined = sym (append-nil one);
@@ -157,7 +157,7 @@ all_ended one other dealt = record {
 
 -- memory was wanting before a question;
 pub all_unasked : {A : Type 0} {p : Plan A} {one other one' other' : List Exchange} {dealt dealt' : List ℕ}
-    → one' ≡ one → other' ≡ other → dealt' ≡ dealt → FollowsAll p one other dealt one' other' dealt' Wanting
+    → one' ≡ one → other' ≡ other → dealt' ≡ dealt → FollowsAll p one other dealt one' other' dealt' OutOfMemory
 all_unasked {p = p} {one = one} {other = other} {dealt = dealt} same same_other same_words = record {
   gained = [];
   joined = same ∙ sym (append-nil one);
@@ -268,13 +268,13 @@ all_drawn {A} {next} {one} {other} {one'} {other'} {dealt} {mid} {dealt'} {end} 
 }
   where
     step : (t : End A) → Fits (next word) rest.gained rest.gained_other rest.words t → Fits (Draw next) rest.gained rest.gained_other (word ∷ rest.words) t
-    step (Came a) fits = fits
-    step Undealt fits = fits
-    step Wanting fits = fits
+    step (Finished a) fits = fits
+    step OutOfWords fits = fits
+    step OutOfMemory fits = fits
 
 -- a word wasn't dealt;
 pub all_starved : {A : Type 0} {next : ℕ → Plan A} {one other one' other' : List Exchange} {dealt dealt' : List ℕ}
-    → one' ≡ one → other' ≡ other → dealt' ≡ dealt → FollowsAll (Draw next) one other dealt one' other' dealt' Undealt
+    → one' ≡ one → other' ≡ other → dealt' ≡ dealt → FollowsAll (Draw next) one other dealt one' other' dealt' OutOfWords
 all_starved {one = one} {other = other} {dealt = dealt} same same_other same_words = record {
   gained = [];
   joined = same ∙ sym (append-nil one);
@@ -300,9 +300,9 @@ all_asked {A} {ask} {next} {one} {mid} {one'} {other} {other'} {dealt} {dealt'} 
 }
   where
     step : (t : End A) → Fits (next told) rest.gained rest.gained_other rest.words t → Fits (Then ask next) (exchange ask told ∷ rest.gained) rest.gained_other rest.words t
-    step (Came a) fits = (refl, fits)
-    step Undealt fits = (refl, fits)
-    step Wanting fits = (refl, fits)
+    step (Finished a) fits = (refl, fits)
+    step OutOfWords fits = (refl, fits)
+    step OutOfMemory fits = (refl, fits)
 
 -- or of the other one.
 pub all_asked_other : {A : Type 0} {ask : Ask} {next : Told → Plan A} {one one' other mid other' : List Exchange} {dealt dealt' : List ℕ} {end : End A} (told : Told)
@@ -319,9 +319,9 @@ all_asked_other {A} {ask} {next} {one} {one'} {other} {mid} {other'} {dealt} {de
 }
   where
     step : (t : End A) → Fits (next told) rest.gained rest.gained_other rest.words t → Fits (Other ask next) rest.gained (exchange ask told ∷ rest.gained_other) rest.words t
-    step (Came a) fits = (refl, fits)
-    step Undealt fits = (refl, fits)
-    step Wanting fits = (refl, fits)
+    step (Finished a) fits = (refl, fits)
+    step OutOfWords fits = (refl, fits)
+    step OutOfMemory fits = (refl, fits)
 
 -- all of these exits, for `using(..)` on a function that asks two devices and dice
 pub ruleset all_exits = (all_more, all_cut, all_undealt, all_ended, all_unasked, all_drawn, all_starved, all_asked, all_asked_other, by_one, by_other, by_dice)

@@ -7,7 +7,7 @@ use Rattle.mdoc_outside.specs.ListDice.{left}
 use Rattle.key_device.proofs.OverLemmas.{Tells, over_walk, over_starves, over_begins, gained_is, fits_same}
 use Rattle.key_device.specs.Gave.{Counts, Runs, told_in, any_failed, CountsFailed}
 use Rattle.key_device.specs.GaveForms.{Replayed, IsOverWhatWasLeft, BeginsOverWhatWasLeft, IsOverAllThatWasLeft, IsUndealtOverAllThatWasLeft, counted_on, ReplayCountsEach, AllToyTold, ToyTellsEach, ToyCountsEach}
-use Rattle.key_device.specs.Plan.{Came, Undealt, Wanting, over_all}
+use Rattle.key_device.specs.Plan.{Finished, OutOfWords, OutOfMemory, over_all}
 use Rattle.key_device.specs.Recording.{talk, inner}
 use Rattle.key_device.specs.ReplayDevice.{Replays, tape_left, fault_count}
 use Rattle.key_device.specs.Tape.{is_failed}
@@ -56,12 +56,12 @@ tells old new gained gave is =
 pub is_over_what_was_left : (A : Type 0) → IsOverWhatWasLeft A
 is_over_what_was_left A plan old new gained outcome follows gave is =
     over_walk plan gained [] [] outcome (tape_left (inner old)) (tape_left (inner new)) [] [] []
-    (fits_same plan (Came outcome) (gained_is (talk old) follows.gained gained follows.joined is) refl refl follows.fits) (tells old new gained gave is) refl
+    (fits_same plan (Finished outcome) (gained_is (talk old) follows.gained gained follows.joined is) refl refl follows.fits) (tells old new gained gave is) refl
 
 pub begins_over_what_was_left : (A : Type 0) → BeginsOverWhatWasLeft A
 begins_over_what_was_left A plan old new gained follows gave is =
     let begun = over_begins plan gained [] [] (tape_left (inner old)) (tape_left (inner new)) [] [] []
-    (fits_same plan Wanting (gained_is (talk old) follows.gained gained follows.joined is) refl refl follows.fits) (tells old new gained gave is) refl in
+    (fits_same plan OutOfMemory (gained_is (talk old) follows.gained gained follows.joined is) refl refl follows.fits) (tells old new gained gave is) refl in
     (begun.0, begun.2)
 
 pub is_over_all_that_was_left : (A : Type 0) → IsOverAllThatWasLeft A
@@ -69,7 +69,7 @@ is_over_all_that_was_left A plan one one' other other' dice dice' es os outcome 
     let words = takes_from_the_list dice dice' follows.words gave_words follows.joined_words in
     ap (λ ws. over_all plan (tape_left (inner one)) (tape_left (inner other)) ws) words
     ∙ over_walk plan es os follows.words outcome (tape_left (inner one)) (tape_left (inner one')) (tape_left (inner other)) (tape_left (inner other')) (left (dice_of dice'))
-    (fits_same plan (Came outcome) (gained_is (talk one) follows.gained es follows.joined e) (gained_is (talk other) follows.gained_other os follows.joined_other o) refl follows.fits)
+    (fits_same plan (Finished outcome) (gained_is (talk one) follows.gained es follows.joined e) (gained_is (talk other) follows.gained_other os follows.joined_other o) refl follows.fits)
     (tells one one' es gave e) (tells other other' os gave' o)
 
 pub is_undealt_over_all_that_was_left : (A : Type 0) → IsUndealtOverAllThatWasLeft A
@@ -77,7 +77,7 @@ is_undealt_over_all_that_was_left A plan one one' other other' dice dice' es os 
     let words : left (dice_of dice) ≡ follows.words = takes_from_the_list dice dice' follows.words gave_words follows.joined_words ∙ rw spent (append-nil follows.words) in
     ap (λ ws. over_all plan (tape_left (inner one)) (tape_left (inner other)) ws) words
     ∙ over_starves plan es os follows.words (tape_left (inner one)) (tape_left (inner one')) (tape_left (inner other)) (tape_left (inner other'))
-    (fits_same plan Undealt (gained_is (talk one) follows.gained es follows.joined e) (gained_is (talk other) follows.gained_other os follows.joined_other o) refl follows.fits)
+    (fits_same plan OutOfWords (gained_is (talk one) follows.gained es follows.joined e) (gained_is (talk other) follows.gained_other os follows.joined_other o) refl follows.fits)
     (tells one one' es gave e) (tells other other' os gave' o)
 
 replay_run : (old : ReplayDevice) (calls : List (Option Exchange)) (new : ReplayDevice)

@@ -3,7 +3,7 @@ use Rattle.std.proofs.Common.{◌≡◌, ℕ, List, [], ◌∷◌, ◌++◌, tru
 use Rattle.std.proofs.lemmas.List.{append_cancel_left}
 use Rattle.key_device.proofs.AllPlanLemmas.{wrap}
 use Rattle.key_device.proofs.SameAsk.{ask_itself}
-use Rattle.key_device.specs.Plan.{Plan, Done, Then, Other, Draw, Walks, Begins, Starves, Fits, End, Came, Undealt, Wanting, asks, Course, over_all}
+use Rattle.key_device.specs.Plan.{Plan, Done, Then, Other, Draw, Walks, Begins, Starves, Fits, End, Finished, OutOfWords, OutOfMemory, asks, Course, over_all}
 use Rattle.key_device.specs.PlanLaws.{IsOverItsTalk, BeginsWithItsTalk, FollowsWhereAllAsked, IsOverAll, IsOverAllUndealt, BeginsWithAll, FollowsAllWhereAsked}
 use Rattle.key_device.specs.Tape.{same_ask, answer_of, tape_after}
 use Rattle.key_device.specs.declared.ask.Ask.{Ask}
@@ -112,30 +112,30 @@ fits_same p {es} {es'} {os} {os'} {ws} {ws'} end e o w fits =
 pub is_over_all : (A : Type 0) → IsOverAll A
 is_over_all A plan one es one' tape other os other' tape' dealt ws dealt' words outcome follows e o w =
     over_walk plan es os ws outcome (es ++ tape) tape (os ++ tape') tape' words
-    (fits_same plan (Came outcome) (gained_is one follows.gained es follows.joined e) (gained_is other follows.gained_other os follows.joined_other o) (gained_is dealt follows.words ws follows.joined_words w) follows.fits)
+    (fits_same plan (Finished outcome) (gained_is one follows.gained es follows.joined e) (gained_is other follows.gained_other os follows.joined_other o) (gained_is dealt follows.words ws follows.joined_words w) follows.fits)
     (tells_front es tape) (tells_front os tape')
 
 pub is_over_all_undealt : (A : Type 0) → IsOverAllUndealt A
 is_over_all_undealt A plan one es one' tape other os other' tape' dealt ws dealt' follows e o w =
     over_starves plan es os ws (es ++ tape) tape (os ++ tape') tape'
-    (fits_same plan Undealt (gained_is one follows.gained es follows.joined e) (gained_is other follows.gained_other os follows.joined_other o) (gained_is dealt follows.words ws follows.joined_words w) follows.fits)
+    (fits_same plan OutOfWords (gained_is one follows.gained es follows.joined e) (gained_is other follows.gained_other os follows.joined_other o) (gained_is dealt follows.words ws follows.joined_words w) follows.fits)
     (tells_front es tape) (tells_front os tape')
 
 pub begins_with_all : (A : Type 0) → BeginsWithAll A
 begins_with_all A plan one es one' tape other os other' tape' dealt ws dealt' words follows e o w =
     over_begins plan es os ws (es ++ tape) tape (os ++ tape') tape' words
-    (fits_same plan Wanting (gained_is one follows.gained es follows.joined e) (gained_is other follows.gained_other os follows.joined_other o) (gained_is dealt follows.words ws follows.joined_words w) follows.fits)
+    (fits_same plan OutOfMemory (gained_is one follows.gained es follows.joined e) (gained_is other follows.gained_other os follows.joined_other o) (gained_is dealt follows.words ws follows.joined_words w) follows.fits)
     (tells_front es tape) (tells_front os tape')
 
 pub is_over_its_talk : (A : Type 0) → IsOverItsTalk A
 is_over_its_talk A plan old gained new tape outcome follows is =
     over_walk plan gained [] [] outcome (gained ++ tape) tape [] [] []
-    (fits_same plan (Came outcome) (gained_is old follows.gained gained follows.joined is) refl refl follows.fits) (tells_front gained tape) refl
+    (fits_same plan (Finished outcome) (gained_is old follows.gained gained follows.joined is) refl refl follows.fits) (tells_front gained tape) refl
 
 pub begins_with_its_talk : (A : Type 0) → BeginsWithItsTalk A
 begins_with_its_talk A plan old gained new tape follows is =
     let begun = over_begins plan gained [] [] (gained ++ tape) tape [] [] []
-    (fits_same plan Wanting (gained_is old follows.gained gained follows.joined is) refl refl follows.fits) (tells_front gained tape) refl in
+    (fits_same plan OutOfMemory (gained_is old follows.gained gained follows.joined is) refl refl follows.fits) (tells_front gained tape) refl in
     (begun.0, begun.2)
 
 -- The converse: a plan that over tapes and words asks exactly their questions walks them.

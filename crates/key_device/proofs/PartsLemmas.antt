@@ -2,7 +2,7 @@
 use Rattle.std.proofs.Common.{◌≡◌, ◌⊎◌, inl, inr, ℕ, List, [], ◌∷◌, ◌++◌, Option, refl, sym, ◌∙◌, ap, subst, append_assoc}
 use Rattle.key_device.proofs.AllPlanLemmas.{by_one, wrap}
 use Rattle.key_device.proofs.OverLemmas.{gained_is, fits_same}
-use Rattle.key_device.specs.Plan.{Plan, Done, Then, Other, Draw, bind, Walks, Begins, Starves, Fits, End, Came, Undealt, Wanting, end_of, FollowsAll}
+use Rattle.key_device.specs.Plan.{Plan, Done, Then, Other, Draw, bind, Walks, Begins, Starves, Fits, End, Finished, OutOfWords, OutOfMemory, end_of, FollowsAll}
 use Rattle.key_device.specs.PlanLaws.{FollowsBoth, FollowsParts, IsFollowedInParts, IsBegunInParts, IsUndealtInParts, IsWalkedInParts, IsCutInParts, HasOneOutcome, NeverBothEnds}
 use Rattle.key_device.specs.declared.ask.Ask.{Ask}
 use Rattle.key_device.specs.declared.exchange.Exchange.{Exchange}
@@ -66,54 +66,54 @@ whole x f es os ws end fits =
 
 -- an end that isn't an outcome may lie in the first plan
 abbrev pub ends_first : {A B : Type 0} → End B → Plan A → List Exchange → List Exchange → List ℕ → Type 0
-ends_first (Came b) p es os ws = ⊥
-ends_first Undealt p es os ws = Starves p es os ws
-ends_first Wanting p es os ws = Begins p es os ws
+ends_first (Finished b) p es os ws = ⊥
+ends_first OutOfWords p es os ws = Starves p es os ws
+ends_first OutOfMemory p es os ws = Begins p es os ws
 
 then_fits : {A B : Type 0} {ask : Ask} (next : Told → Plan A) (f : A → Plan B) (e : Exchange) (es os : List Exchange) (ws : List ℕ) (end : End B)
     → Fits (bind (Then ask next) f) (e ∷ es) os ws end → (e.ask ≡ ask) × Fits (bind (next e.told) f) es os ws end
-then_fits next f e es os ws (Came b) fits = fits
-then_fits next f e es os ws Undealt fits = fits
-then_fits next f e es os ws Wanting fits = fits
+then_fits next f e es os ws (Finished b) fits = fits
+then_fits next f e es os ws OutOfWords fits = fits
+then_fits next f e es os ws OutOfMemory fits = fits
 
 then_first : {A B : Type 0} {ask : Ask} (next : Told → Plan A) (e : Exchange) (es os : List Exchange) (ws : List ℕ) (end : End B)
     → e.ask ≡ ask → ends_first end (next e.told) es os ws → ends_first end (Then ask next) (e ∷ es) os ws
-then_first next e es os ws (Came b) same first = first
-then_first next e es os ws Undealt same first = (same, first)
-then_first next e es os ws Wanting same first = (same, first)
+then_first next e es os ws (Finished b) same first = first
+then_first next e es os ws OutOfWords same first = (same, first)
+then_first next e es os ws OutOfMemory same first = (same, first)
 
 other_fits : {A B : Type 0} {ask : Ask} (next : Told → Plan A) (f : A → Plan B) (o : Exchange) (es os : List Exchange) (ws : List ℕ) (end : End B)
     → Fits (bind (Other ask next) f) es (o ∷ os) ws end → (o.ask ≡ ask) × Fits (bind (next o.told) f) es os ws end
-other_fits next f o es os ws (Came b) fits = fits
-other_fits next f o es os ws Undealt fits = fits
-other_fits next f o es os ws Wanting fits = fits
+other_fits next f o es os ws (Finished b) fits = fits
+other_fits next f o es os ws OutOfWords fits = fits
+other_fits next f o es os ws OutOfMemory fits = fits
 
 other_first : {A B : Type 0} {ask : Ask} (next : Told → Plan A) (o : Exchange) (es os : List Exchange) (ws : List ℕ) (end : End B)
     → o.ask ≡ ask → ends_first end (next o.told) es os ws → ends_first end (Other ask next) es (o ∷ os) ws
-other_first next o es os ws (Came b) same first = first
-other_first next o es os ws Undealt same first = (same, first)
-other_first next o es os ws Wanting same first = (same, first)
+other_first next o es os ws (Finished b) same first = first
+other_first next o es os ws OutOfWords same first = (same, first)
+other_first next o es os ws OutOfMemory same first = (same, first)
 
 draw_fits : {A B : Type 0} (next : ℕ → Plan A) (f : A → Plan B) (es os : List Exchange) (w : ℕ) (ws : List ℕ) (end : End B)
     → Fits (bind (Draw next) f) es os (w ∷ ws) end → Fits (bind (next w) f) es os ws end
-draw_fits next f es os w ws (Came b) fits = fits
-draw_fits next f es os w ws Undealt fits = fits
-draw_fits next f es os w ws Wanting fits = fits
+draw_fits next f es os w ws (Finished b) fits = fits
+draw_fits next f es os w ws OutOfWords fits = fits
+draw_fits next f es os w ws OutOfMemory fits = fits
 
 draw_first : {A B : Type 0} (next : ℕ → Plan A) (es os : List Exchange) (w : ℕ) (ws : List ℕ) (end : End B)
     → ends_first end (next w) es os ws → ends_first end (Draw next) es os (w ∷ ws)
-draw_first next es os w ws (Came b) first = first
-draw_first next es os w ws Undealt first = first
-draw_first next es os w ws Wanting first = first
+draw_first next es os w ws (Finished b) first = first
+draw_first next es os w ws OutOfWords first = first
+draw_first next es os w ws OutOfMemory first = first
 
 pub parts : {A B : Type 0} (p : Plan A) (f : A → Plan B) (es os : List Exchange) (ws : List ℕ) (end : End B)
     → Fits (bind p f) es os ws end → ends_first end p es os ws ⊎ Parts p f es os ws end
 parts (Done x) f es os ws end fits = inr (whole x f es os ws end fits)
-parts (Then ask next) f [] os ws (Came b) fits = absurd fits
-parts (Then ask next) f [] os ws Undealt fits = absurd fits
-parts (Then ask next) f [] [] [] Wanting fits = inl tt
-parts (Then ask next) f [] [] (w ∷ ws) Wanting fits = absurd fits
-parts (Then ask next) f [] (o ∷ os) ws Wanting fits = absurd fits
+parts (Then ask next) f [] os ws (Finished b) fits = absurd fits
+parts (Then ask next) f [] os ws OutOfWords fits = absurd fits
+parts (Then ask next) f [] [] [] OutOfMemory fits = inl tt
+parts (Then ask next) f [] [] (w ∷ ws) OutOfMemory fits = absurd fits
+parts (Then ask next) f [] (o ∷ os) ws OutOfMemory fits = absurd fits
 parts (Then ask next) f (e ∷ es) os ws end fits =
     let both = then_fits next f e es os ws end fits in
     elim (parts (next e.told) f es os ws end both.1) [
@@ -133,11 +133,11 @@ parts (Then ask next) f (e ∷ es) os ws end fits =
         second = rest.second;
       })
     ]
-parts (Other ask next) f es [] ws (Came b) fits = absurd fits
-parts (Other ask next) f es [] ws Undealt fits = absurd fits
-parts (Other ask next) f [] [] [] Wanting fits = inl tt
-parts (Other ask next) f [] [] (w ∷ ws) Wanting fits = absurd fits
-parts (Other ask next) f (e ∷ es) [] ws Wanting fits = absurd fits
+parts (Other ask next) f es [] ws (Finished b) fits = absurd fits
+parts (Other ask next) f es [] ws OutOfWords fits = absurd fits
+parts (Other ask next) f [] [] [] OutOfMemory fits = inl tt
+parts (Other ask next) f [] [] (w ∷ ws) OutOfMemory fits = absurd fits
+parts (Other ask next) f (e ∷ es) [] ws OutOfMemory fits = absurd fits
 parts (Other ask next) f es (o ∷ os) ws end fits =
     let both = other_fits next f o es os ws end fits in
     elim (parts (next o.told) f es os ws end both.1) [
@@ -157,13 +157,13 @@ parts (Other ask next) f es (o ∷ os) ws end fits =
         second = rest.second;
       })
     ]
-parts (Draw next) f es os [] (Came b) fits = absurd fits
-parts (Draw next) f [] [] [] Undealt fits = inl tt
-parts (Draw next) f [] (o ∷ os) [] Undealt fits = absurd fits
-parts (Draw next) f (e ∷ es) os [] Undealt fits = absurd fits
-parts (Draw next) f [] [] [] Wanting fits = inl tt
-parts (Draw next) f [] (o ∷ os) [] Wanting fits = absurd fits
-parts (Draw next) f (e ∷ es) os [] Wanting fits = absurd fits
+parts (Draw next) f es os [] (Finished b) fits = absurd fits
+parts (Draw next) f [] [] [] OutOfWords fits = inl tt
+parts (Draw next) f [] (o ∷ os) [] OutOfWords fits = absurd fits
+parts (Draw next) f (e ∷ es) os [] OutOfWords fits = absurd fits
+parts (Draw next) f [] [] [] OutOfMemory fits = inl tt
+parts (Draw next) f [] (o ∷ os) [] OutOfMemory fits = absurd fits
+parts (Draw next) f (e ∷ es) os [] OutOfMemory fits = absurd fits
 parts (Draw next) f es os (w ∷ ws) end fits =
     elim (parts (next w) f es os ws end (draw_fits next f es os w ws end fits)) [
       | inl first ↦ inl (draw_first next es os w ws end first)
@@ -205,14 +205,14 @@ follows_both {one = one} {other = other} {dealt = dealt} follows cut = record {
 
 pub is_followed_in_parts : (A B : Type 0) → IsFollowedInParts A B
 is_followed_in_parts A B first second one other one' other' dealt dealt' outcome follows =
-    elim (parts first second follows.gained follows.gained_other follows.words (Came outcome) follows.fits) [
+    elim (parts first second follows.gained follows.gained_other follows.words (Finished outcome) follows.fits) [
       | inl none ↦ absurd none
       | inr cut ↦ follows_both follows cut
     ]
 
 pub is_begun_in_parts : (A B : Type 0) → IsBegunInParts A B
 is_begun_in_parts A B first second one other one' other' dealt dealt' follows =
-    elim (parts first second follows.gained follows.gained_other follows.words Wanting follows.fits) [
+    elim (parts first second follows.gained follows.gained_other follows.words OutOfMemory follows.fits) [
       | inl begins ↦ inl (record {
         gained = follows.gained;
         joined = follows.joined;
@@ -227,7 +227,7 @@ is_begun_in_parts A B first second one other one' other' dealt dealt' follows =
 
 pub is_undealt_in_parts : (A B : Type 0) → IsUndealtInParts A B
 is_undealt_in_parts A B first second one other one' other' dealt dealt' follows =
-    elim (parts first second follows.gained follows.gained_other follows.words Undealt follows.fits) [
+    elim (parts first second follows.gained follows.gained_other follows.words OutOfWords follows.fits) [
       | inl starves ↦ inl (record {
         gained = follows.gained;
         joined = follows.joined;
@@ -253,8 +253,8 @@ follows_parts {A} {B} {p} {f} {old} {new} {outcome} both =
     record {
       between = both.between;
       middle = both.middle;
-      before = wrap (subst (λ ws. FollowsAll p old [] [] both.between [] ws (Came both.middle)) w.0
-          (subst (λ os. FollowsAll p old [] [] both.between os both.between_words (Came both.middle)) o.0 both.before));
+      before = wrap (subst (λ ws. FollowsAll p old [] [] both.between [] ws (Finished both.middle)) w.0
+          (subst (λ os. FollowsAll p old [] [] both.between os both.between_words (Finished both.middle)) o.0 both.before));
       behind = wrap (subst (λ ws. FollowsAll (f both.middle) both.between [] ws new [] [] (end_of outcome)) w.0
           (subst (λ os. FollowsAll (f both.middle) both.between os both.between_words new [] [] (end_of outcome)) o.0 both.behind));
     }

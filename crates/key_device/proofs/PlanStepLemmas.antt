@@ -4,7 +4,7 @@ use Rattle.std.proofs.Common.{◌≡◌, ◌+◌, ◌<◌, ◌≤◌, ℕ, List,
 use Rattle.key_device.proofs.AllPlanLemmas.{wrap, by_one}
 use Rattle.key_device.proofs.AllPlanStepLemmas as all
 use Rattle.key_device.specs.Plan.{Plan, Follows}
-use Rattle.key_device.specs.PlanSteps.{each, times, first_yes, folded, turned}
+use Rattle.key_device.specs.PlanSteps.{each, times, first_yes, folded, mapped}
 use Rattle.key_device.specs.declared.exchange.Exchange.{Exchange}
 
 -- What a loop that asks for each of a list shows of its talk: before the first,
@@ -138,13 +138,13 @@ folded_paused step state xs i first = wrap (all.all_folded_paused step state xs 
 pub ruleset folded_exits = (folded_begun, folded_more, folded_cut, folded_paused)
 
 -- What a function whose callee's outcome it turns into another one shows: the callee came to one,
-pub turned_came : {A B : Type 0} (answer : A → B) {p : Plan A} {old new : List Exchange} {a : A}
-    → Follows p old new (Some a) → Follows (turned answer p) old new (Some (answer a))
-turned_came answer first = wrap (all.all_turned_came answer (by_one [] [] first))
+pub mapped_came : {A B : Type 0} (answer : A → B) {p : Plan A} {old new : List Exchange} {a : A}
+    → Follows p old new (Some a) → Follows (mapped answer p) old new (Some (answer a))
+mapped_came answer first = wrap (all.all_turned_came answer (by_one [] [] first))
 
 -- or wanted memory.
-pub turned_cut : {A B : Type 0} (answer : A → B) {p : Plan A} {old new : List Exchange}
-    → Follows p old new None → Follows (turned answer p) old new None
-turned_cut answer first = wrap (all.all_turned_cut answer (by_one [] [] first))
+pub mapped_cut : {A B : Type 0} (answer : A → B) {p : Plan A} {old new : List Exchange}
+    → Follows p old new None → Follows (mapped answer p) old new None
+mapped_cut answer first = wrap (all.all_turned_cut answer (by_one [] [] first))
 
-pub ruleset turned_exits = (turned_came, turned_cut)
+pub ruleset mapped_exits = (mapped_came, mapped_cut)

@@ -6,7 +6,7 @@ use Rattle.mdoc_outside.specs.ListDice.{ListDeals, left, faulted}
 use Rattle.mdoc_outside.specs.declared.dealt.Dealt.{Dealt}
 use Rattle.mdoc_outside.specs.declared.list_dice.ListDice.{ListDice}
 use Rattle.key_device.specs.Gave.{Gave}
-use Rattle.key_device.specs.Plan.{Plan, Follows, FollowsAll, Came, Undealt, asks, over, over_all}
+use Rattle.key_device.specs.Plan.{Plan, Follows, FollowsAll, Finished, OutOfWords, asks, over, over_all}
 use Rattle.key_device.specs.PlanLaws.{course_of}
 use Rattle.key_device.specs.Recording.{talk, inner}
 use Rattle.key_device.specs.ReplayDevice.{Replays, tape_left, fault_count}
@@ -41,7 +41,7 @@ BeginsOverWhatWasLeft A =
 abbrev pub IsOverAllThatWasLeft : Type 0 → Type 0
 IsOverAllThatWasLeft A =
     (plan : Plan A) (one one' other other' : Recorder ReplayDevice) (dice dice' : Dealt ListDice) (es os : List Exchange) (outcome : A)
-    → FollowsAll plan (talk one) (talk other) (dealt dice) (talk one') (talk other') (dealt dice') (Came outcome)
+    → FollowsAll plan (talk one) (talk other) (dealt dice) (talk one') (talk other') (dealt dice') (Finished outcome)
     → Replayed one one' → Replayed other other' → GaveWords ListDeals faulted dice dice'
     → talk one' ≡ talk one ++ es → talk other' ≡ talk other ++ os
     → over_all plan (tape_left (inner one)) (tape_left (inner other)) (left (dice_of dice))
@@ -58,7 +58,7 @@ IsOverAllThatWasLeft A =
 abbrev pub IsUndealtOverAllThatWasLeft : Type 0 → Type 0
 IsUndealtOverAllThatWasLeft A =
     (plan : Plan A) (one one' other other' : Recorder ReplayDevice) (dice dice' : Dealt ListDice) (es os : List Exchange)
-    → FollowsAll plan (talk one) (talk other) (dealt dice) (talk one') (talk other') (dealt dice') Undealt
+    → FollowsAll plan (talk one) (talk other) (dealt dice) (talk one') (talk other') (dealt dice') OutOfWords
     → Replayed one one' → Replayed other other' → GaveWords ListDeals faulted dice dice'
     → talk one' ≡ talk one ++ es → talk other' ≡ talk other ++ os → left (dice_of dice') ≡ []
     → over_all plan (tape_left (inner one)) (tape_left (inner other)) (left (dice_of dice))

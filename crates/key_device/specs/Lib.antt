@@ -1,4 +1,5 @@
 pub mod Asking
+pub mod Ends
 pub mod Gave
 pub mod GaveForms
 pub mod HasLine
@@ -7,6 +8,7 @@ pub mod Plan
 pub mod PlanLaws
 pub mod PlanSteps
 pub mod Question
+pub mod Questions
 pub mod Recording
 pub mod ReplayDevice
 pub mod Tape

@@ -61,19 +61,19 @@ Starves plan es os ws = ⊥
 
 -- how a run ended: it came to an outcome, a word wasn't dealt, or memory was wanting
 pub data End (A : Type 0) : Type 0 where
-  Came : A → End A
-  Undealt : End A
-  Wanting : End A
+  Finished : A → End A
+  OutOfWords : End A
+  OutOfMemory : End A
 
 abbrev pub end_of : {A : Type 0} → Option A → End A
-end_of (Some outcome) = Came outcome
-end_of None = Wanting
+end_of (Some outcome) = Finished outcome
+end_of None = OutOfMemory
 
 -- Of a run that came to an outcome they are all, of one that wanted memory the first.
 abbrev pub Fits : {A : Type 0} → Plan A → List Exchange → List Exchange → List ℕ → End A → Type 0
-Fits plan es os ws (Came outcome) = Walks plan es os ws outcome
-Fits plan es os ws Undealt = Starves plan es os ws
-Fits plan es os ws Wanting = Begins plan es os ws
+Fits plan es os ws (Finished outcome) = Walks plan es os ws outcome
+Fits plan es os ws OutOfWords = Starves plan es os ws
+Fits plan es os ws OutOfMemory = Begins plan es os ws
 
 -- What the talk with one device gained are the plan's questions.
 pub record Follows {A : Type 0} (plan : Plan A) (old new : List Exchange) (outcome : Option A) : Type 0 where

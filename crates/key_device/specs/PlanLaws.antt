@@ -1,6 +1,6 @@
 -- Laws of plans.
 use Rattle.std.specs.Prelude.{◌≡◌, ◌⊎◌, ℕ, List, [], ◌∷◌, ◌++◌, Option, Some, None}
-use Rattle.key_device.specs.Plan.{Plan, bind, Follows, FollowsAll, End, Came, Undealt, Wanting, asks, Course, over, over_all}
+use Rattle.key_device.specs.Plan.{Plan, bind, Follows, FollowsAll, End, Finished, OutOfWords, OutOfMemory, asks, Course, over, over_all}
 use Rattle.key_device.specs.PlanSteps.{folded}
 use Rattle.key_device.specs.declared.ask.Ask.{Ask}
 use Rattle.key_device.specs.declared.exchange.Exchange.{Exchange}
@@ -37,7 +37,7 @@ FollowsWhereAllAsked A =
 abbrev pub IsOverAll : Type 0 → Type 0
 IsOverAll A =
     (plan : Plan A) (one es one' tape other os other' tape' : List Exchange) (dealt ws dealt' words : List ℕ) (outcome : A)
-    → FollowsAll plan one other dealt one' other' dealt' (Came outcome)
+    → FollowsAll plan one other dealt one' other' dealt' (Finished outcome)
     → one' ≡ one ++ es → other' ≡ other ++ os → dealt' ≡ dealt ++ ws
     → over_all plan (es ++ tape) (os ++ tape') (ws ++ words)
     ≡ record { questions = asks es; questions_other = asks os; outcome = Some outcome; left = tape; left_other = tape'; left_words = words }
@@ -46,7 +46,7 @@ IsOverAll A =
 abbrev pub IsOverAllUndealt : Type 0 → Type 0
 IsOverAllUndealt A =
     (plan : Plan A) (one es one' tape other os other' tape' : List Exchange) (dealt ws dealt' : List ℕ)
-    → FollowsAll plan one other dealt one' other' dealt' Undealt
+    → FollowsAll plan one other dealt one' other' dealt' OutOfWords
     → one' ≡ one ++ es → other' ≡ other ++ os → dealt' ≡ dealt ++ ws
     → over_all plan (es ++ tape) (os ++ tape') ws
     ≡ record { questions = asks es; questions_other = asks os; outcome = None; left = tape; left_other = tape'; left_words = [] }
@@ -55,7 +55,7 @@ IsOverAllUndealt A =
 abbrev pub BeginsWithAll : Type 0 → Type 0
 BeginsWithAll A =
     (plan : Plan A) (one es one' tape other os other' tape' : List Exchange) (dealt ws dealt' words : List ℕ)
-    → FollowsAll plan one other dealt one' other' dealt' Wanting
+    → FollowsAll plan one other dealt one' other' dealt' OutOfMemory
     → one' ≡ one ++ es → other' ≡ other ++ os → dealt' ≡ dealt ++ ws
     → (more more' : List Ask)
     × ((over_all plan (es ++ tape) (os ++ tape') (ws ++ words)).questions ≡ asks es ++ more)
@@ -67,21 +67,21 @@ FollowsAllWhereAsked A =
     (plan : Plan A) (es os one other : List Exchange) (ws dealt : List ℕ) (outcome : A)
     → over_all plan es os ws
     ≡ record { questions = asks es; questions_other = asks os; outcome = Some outcome; left = []; left_other = []; left_words = [] }
-    → FollowsAll plan one other dealt (one ++ es) (other ++ os) (dealt ++ ws) (Came outcome)
+    → FollowsAll plan one other dealt (one ++ es) (other ++ os) (dealt ++ ws) (Finished outcome)
 
 -- A law: the talks and words gained say the outcome,
 abbrev pub HasOneOutcome : Type 0 → Type 0
 HasOneOutcome A =
     (plan : Plan A) (one other one' other' : List Exchange) (dealt dealt' : List ℕ) (a b : A)
-    → FollowsAll plan one other dealt one' other' dealt' (Came a)
-    → FollowsAll plan one other dealt one' other' dealt' (Came b) → a ≡ b
+    → FollowsAll plan one other dealt one' other' dealt' (Finished a)
+    → FollowsAll plan one other dealt one' other' dealt' (Finished b) → a ≡ b
 
 -- and that there is one.
 abbrev pub NeverBothEnds : Type 0 → Type 0
 NeverBothEnds A =
     (plan : Plan A) (one other one' other' : List Exchange) (dealt dealt' : List ℕ) (a : A)
-    → FollowsAll plan one other dealt one' other' dealt' (Came a)
-    → FollowsAll plan one other dealt one' other' dealt' Undealt → ⊥
+    → FollowsAll plan one other dealt one' other' dealt' (Finished a)
+    → FollowsAll plan one other dealt one' other' dealt' OutOfWords → ⊥
 
 -- a plan was followed, and then the one that its outcome calls for
 pub record FollowsBoth {A B : Type 0} (first : Plan A) (second : A → Plan B)
@@ -90,31 +90,31 @@ pub record FollowsBoth {A B : Type 0} (first : Plan A) (second : A → Plan B)
   pub between_other : List Exchange
   pub between_words : List ℕ
   pub middle : A
-  pub before : FollowsAll first one other dealt between between_other between_words (Came middle)
+  pub before : FollowsAll first one other dealt between between_other between_words (Finished middle)
   pub behind : FollowsAll (second middle) between between_other between_words one' other' dealt' end
 
 -- A law: where a plan with another one after it was followed to an outcome, each of them was.
 abbrev pub IsFollowedInParts : Type 0 → Type 0 → Type 0
 IsFollowedInParts A B =
     (first : Plan A) (second : A → Plan B) (one other one' other' : List Exchange) (dealt dealt' : List ℕ) (outcome : B)
-    → FollowsAll (bind first second) one other dealt one' other' dealt' (Came outcome)
-    → FollowsBoth first second one other dealt one' other' dealt' (Came outcome)
+    → FollowsAll (bind first second) one other dealt one' other' dealt' (Finished outcome)
+    → FollowsBoth first second one other dealt one' other' dealt' (Finished outcome)
 
 -- A law: where memory was wanting, or a word, that was in the first one, or the first one came to an
 -- outcome and it was in the second.
 abbrev pub IsBegunInParts : Type 0 → Type 0 → Type 0
 IsBegunInParts A B =
     (first : Plan A) (second : A → Plan B) (one other one' other' : List Exchange) (dealt dealt' : List ℕ)
-    → FollowsAll (bind first second) one other dealt one' other' dealt' Wanting
-    → FollowsAll first one other dealt one' other' dealt' Wanting
-    ⊎ FollowsBoth first second one other dealt one' other' dealt' Wanting
+    → FollowsAll (bind first second) one other dealt one' other' dealt' OutOfMemory
+    → FollowsAll first one other dealt one' other' dealt' OutOfMemory
+    ⊎ FollowsBoth first second one other dealt one' other' dealt' OutOfMemory
 
 abbrev pub IsUndealtInParts : Type 0 → Type 0 → Type 0
 IsUndealtInParts A B =
     (first : Plan A) (second : A → Plan B) (one other one' other' : List Exchange) (dealt dealt' : List ℕ)
-    → FollowsAll (bind first second) one other dealt one' other' dealt' Undealt
-    → FollowsAll first one other dealt one' other' dealt' Undealt
-    ⊎ FollowsBoth first second one other dealt one' other' dealt' Undealt
+    → FollowsAll (bind first second) one other dealt one' other' dealt' OutOfWords
+    → FollowsAll first one other dealt one' other' dealt' OutOfWords
+    ⊎ FollowsBoth first second one other dealt one' other' dealt' OutOfWords
 
 -- one device was asked a plan, and then the one that its outcome calls for
 pub record FollowsParts {A B : Type 0} (first : Plan A) (second : A → Plan B) (old new : List Exchange) (outcome : Option B) : Type 0 where

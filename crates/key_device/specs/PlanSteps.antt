@@ -43,6 +43,6 @@ abbrev pub folded : {S X : Type 0} → (S → X → Plan S) → S → List X →
 folded step state [] = Done state
 folded step state (x ∷ xs) = bind (step state x) (λ next. folded step next xs)
 
--- a plan whose outcome, be it a value or a fault, is turned into another one
-abbrev pub turned : {A B : Type 0} → (A → B) → Plan A → Plan B
-turned answer plan = bind plan (λ outcome. Done (answer outcome))
+-- a plan whose outcome, be it a value or a fault, is mapped into another one
+abbrev pub mapped : {A B : Type 0} → (A → B) → Plan A → Plan B
+mapped answer plan = bind plan (λ outcome. Done (answer outcome))

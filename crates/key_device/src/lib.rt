@@ -15,6 +15,7 @@ mod laws;
 mod made;
 mod point;
 mod question;
+mod questions;
 mod recorder;
 mod replay_device;
 mod sharing;
@@ -40,6 +41,7 @@ pub use laws::{
 };
 pub use made::Made;
 pub use point::Point;
+pub use questions::{ask_fresh, ask_signature, ask_verified};
 pub use recorder::Recorder;
 pub use replay_device::ReplayDevice;
 pub use sharing::types_are_send_and_sync;

@@ -1,9 +1,6 @@
 // The types of the crate between threads.
 use crate::{Exchange, Recorder, ReplayDevice, ToyDevice};
-
-fn is_send<T: Send>() {}
-
-fn is_sync<T: Sync>() {}
+use mdoc_outside::{is_send, is_sync};
 
 /// Holds no work: that it compiles shows that the devices, a recorder of such a device, and
 /// exchanges may move to another thread and be shared between threads.

@@ -26,7 +26,7 @@ fn all_stand_for(form: &[u8], text: &[u8]) -> bool
 
 /// Whether a text has a form: its length, a digit for each `0`, and else the form's own bytes.
 #[tactic(auto, unfolding(crate::specs::Form::has_form))]
-pub(crate) fn has_form(form: &[u8], text: &[u8]) -> bool
+pub fn has_form(form: &[u8], text: &[u8]) -> bool
     ensures { result ≡ has_form form.now text.now }
 {
     form.len() == text.len() && all_stand_for(form, text)

@@ -18,6 +18,7 @@ mod sharing;
 mod table;
 
 pub use fitting::fits;
+pub use form::has_form;
 pub use laws::{day_is_written_out, moment_is_written_out, moment_of_its_text};
 pub use moment::moment_of;
 pub use moment_text::text_of;

@@ -1,3 +1,4 @@
+pub mod Borrowed
 pub mod Cabinet
 pub mod CallPlan
 pub mod CountDice
@@ -12,6 +13,7 @@ pub mod KeyName
 pub mod LimitName
 pub mod Lines
 pub mod ListDice
+pub mod ListSteps
 pub mod MemoryCabinet
 pub mod MemorySink
 pub mod OptionSteps

@@ -12,6 +12,11 @@ abbrev pub where_true : {A : Type 0} → Bool → A → Option A
 where_true false value = None
 where_true true value = Some value
 
+-- a fault, unless a test passes
+abbrev pub unless : {A : Type 0} → Bool → A → Option A
+unless true fault = None
+unless false fault = Some fault
+
 -- each of a list, where none comes to nothing
 abbrev pub each : {A B : Type 0} → (A → Option B) → List A → Option (List B)
 each step [] = Some []

@@ -23,6 +23,7 @@ mod fragment;
 mod key_name;
 mod laws;
 mod limit_name;
+mod limits;
 mod line_file;
 mod lines;
 mod list_dice;
@@ -61,6 +62,11 @@ pub use fragment::Fragment;
 pub use key_name::KeyName;
 pub use laws::written_file_is_found;
 pub use limit_name::LimitName;
+pub use limits::{
+    MOST_CERTIFICATE_BYTES, MOST_COPIES, MOST_DOCUMENTS, MOST_FILE_BYTES, MOST_FRAGMENTS,
+    MOST_ITEMS, MOST_MESSAGE_BYTES, MOST_NAME_BYTES, MOST_NAMESPACES, MOST_ROOTS, MOST_VALUE_BYTES,
+    MOST_WISHES, MOST_WISHES_OF_DOCUMENT,
+};
 pub use line_file::lines_of;
 pub use lines::line_count;
 pub use list_dice::ListDice;
@@ -71,7 +77,7 @@ pub use octets::Octets;
 pub use os_dice::OsDice;
 pub use out_sink::OutSink;
 pub use rows::Rows;
-pub use sharing::types_are_send_and_sync;
+pub use sharing::{is_send, is_sync, types_are_send_and_sync};
 pub use sink::Sink;
 pub use sink_call::SinkCall;
 pub use sink_fault::SinkFault;

@@ -1,9 +1,11 @@
 // The owned types between threads.
 use crate::{CountDice, Dealt, End, Fragment, ListDice, Octets, Rows, Word};
 
-fn is_send<T: Send>() {}
+/// Holds no work: that a call compiles shows that values of the type may move to another thread.
+pub fn is_send<T: Send>() {}
 
-fn is_sync<T: Sync>() {}
+/// Holds no work: that a call compiles shows that values of the type may be shared between threads.
+pub fn is_sync<T: Sync>() {}
 
 /// Holds no work: that it compiles shows that `Octets`, `Word`, fragments, `Rows` of such items, the
 /// dice in memory and a dice that keeps the words of such a one may move to another thread and be

@@ -4,8 +4,7 @@ ghost use Rattle.std.specs.Char.{is_ascii_graphic};
 ghost use Rattle.std.specs.List.{list_all};
 ghost use Rattle.mdoc_outside.specs.WordForm.{is_word, is_name};
 
-// The most bytes of a name.
-const MOST_NAME_BYTES: usize = 128;
+use crate::limits::MOST_NAME_BYTES;
 
 // Whether each byte is from 21 to 7e.
 fn are_visible(bytes: &[u8]) -> bool

@@ -4,7 +4,7 @@ use Rattle.std.specs.Prelude.{ℕ, List, ◌++◌, map, filter, Bool, not, Optio
 use Rattle.std.specs.Fmt.{decimal}
 use Rattle.mdoc_print.specs.Printed.{line, name_text}
 use Rattle.package_import.specs.Import.{is_accepted}
-use Rattle.package_model.specs.declared.package_verdict.PackageVerdict.{PackageVerdict}
+use Rattle.verdict_model.specs.declared.package_verdict.PackageVerdict.{PackageVerdict}
 use Rattle.verdict_model.specs.declared.doc_check.DocCheck.{DocCheck}
 use Rattle.verdict_model.specs.declared.doc_check.DocCheck.TheVariants as docs
 use Rattle.verdict_model.specs.declared.element_check.ElementCheck.{ElementCheck}
@@ -54,8 +54,8 @@ abbrev pub is_refused : PackageVerdict → Bool
 is_refused verdict = not (is_accepted verdict)
 
 -- of each document, in order
-abbrev pub all_lines : List PackageVerdict → List (List ℕ)
-all_lines verdicts = map verdict_line verdicts
+abbrev pub package_lines : List PackageVerdict → List (List ℕ)
+package_lines verdicts = map verdict_line verdicts
 
 -- of those that are refused
 abbrev pub refusal_lines : List PackageVerdict → List (List ℕ)

@@ -9,4 +9,4 @@ mod packages;
 
 pub use names::put_name;
 pub use numbers::put_number;
-pub use packages::{all_lines, refusal_lines};
+pub use packages::{package_lines, refusal_lines};

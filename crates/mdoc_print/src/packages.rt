@@ -2,15 +2,14 @@
 
 ghost use Rattle.std.specs.Prelude.{◌≡◌, ◌++◌, IfOk, OnOk, codes};
 ghost use Rattle.std.specs.Fmt.{decimal};
-ghost use Rattle.mdoc_print.specs.PackageLines.{all_lines, doc_check_text, element_check_text, finding, refusal_lines, verdict_line};
+ghost use Rattle.mdoc_print.specs.PackageLines.{package_lines, doc_check_text, element_check_text, finding, refusal_lines, verdict_line};
 
 use crate::names::put_name;
 use crate::numbers::put_number;
 use mdoc_outside::{Memory, Octets, Rows};
 use package_import::is_accepted;
-use package_model::PackageVerdict;
 use std::alloc::Global;
-use verdict_model::{DocCheck, ElementCheck};
+use verdict_model::{DocCheck, ElementCheck, PackageVerdict};
 
 /// The name of a check of a document.
 fn doc_check_text(check: &DocCheck) -> &'static str
@@ -93,8 +92,8 @@ fn verdict_line(alloc: Global, verdict: &PackageVerdict) -> Result<Octets, Memor
 }
 
 /// The line of each document, in order.
-pub fn all_lines(alloc: Global, verdicts: &[PackageVerdict]) -> Result<Rows<Octets>, Memory>
-    ensures { IfOk result (λ lines. lines ≡ all_lines verdicts.now) }
+pub fn package_lines(alloc: Global, verdicts: &[PackageVerdict]) -> Result<Rows<Octets>, Memory>
+    ensures { IfOk result (λ lines. lines ≡ package_lines verdicts.now) }
 {
     let mut lines = Vec::new(alloc);
     for verdict in verdicts {

@@ -14,28 +14,28 @@ use Rattle.cert_view.specs.Roots.{roots_of}
 use Rattle.cert_view.specs.declared.roots_fault.RootsFault.{RootsFault}
 use Rattle.cert_view.specs.declared.roots_fault.RootsFault.TheVariants as roots_faults
 use Rattle.consent.specs.Rules.{rules_of}
-use Rattle.mdoc_program.specs.Asking.{Talks}
+use Rattle.mdoc_frame.specs.Asking.{Talks}
 use Rattle.mdoc_program.specs.Commands.{outcome, work_of}
-use Rattle.mdoc_program.specs.Content.{Content, OfPackage, OfStore, StoreFile, check_status, form, content_of, or_bad_line, or_roots_fault, or_spec_fault, or_status, spec_status, store_file, without_fault}
+use Rattle.mdoc_frame.specs.Content.{Content, OfPackage, OfStore, StoreFile, check_status, form, content_of, or_bad_line, or_roots_fault, or_spec_fault, or_status, spec_status, store_file, without_fault}
 use Rattle.mdoc_program.specs.Exactly.{AtFirst, CabinetExactly, DoneOnlyOpened, DonePrintsAll, FormExactly, IsAbsent, IsRefused, LimitExactly, MissingExactly}
-use Rattle.mdoc_program.specs.Order.{Order}
-use Rattle.mdoc_program.specs.Outcome.{Answer, Failed, FileName, Found, Outcome, after_reads, content_if_absent, file_content, files_named, if_opened}
-use Rattle.mdoc_program.specs.Run.{AreOpened, AsksAfter, End, FileFailed, LineFailed, Stop, Wanting, if_asked, put_calls, status_at}
-use Rattle.issuing.specs.SpecFile.{spec_of}
-use Rattle.issuing.specs.declared.spec_check.SpecCheck.{SpecCheck}
-use Rattle.issuing.specs.declared.spec_check.SpecCheck.TheVariants as specs
-use Rattle.issuing.specs.declared.spec_fault.SpecFault.{SpecFault}
-use Rattle.issuing.specs.declared.spec_fault.SpecFault.TheVariants as spec_faults
-use Rattle.issuing.specs.declared.spec_fields.SpecFields.{SpecFields}
+use Rattle.mdoc_program.specs.Order.{Order, files_named}
+use Rattle.mdoc_frame.specs.Outcome.{Answer, Failed, FileName, Found, Outcome, after_reads, content_if_absent, file_content, if_opened}
+use Rattle.mdoc_frame.specs.Run.{AreOpened, AsksAfter, End, FileFailed, LineFailed, Stop, OutOfMemory, if_asked, put_calls, status_at}
+use Rattle.issue_spec.specs.SpecFile.{spec_of}
+use Rattle.issue_spec.specs.declared.spec_check.SpecCheck.{SpecCheck}
+use Rattle.issue_spec.specs.declared.spec_check.SpecCheck.TheVariants as specs
+use Rattle.issue_spec.specs.declared.spec_fault.SpecFault.{SpecFault}
+use Rattle.issue_spec.specs.declared.spec_fault.SpecFault.TheVariants as spec_faults
+use Rattle.issue_spec.specs.declared.spec_fields.SpecFields.{SpecFields}
 use Rattle.mdoc_outside.specs.declared.limit_name.LimitName.{LimitName}
-use Rattle.mdoc_program.specs.Wishes.{wishes_of}
-use Rattle.mdoc_program.specs.declared.file_fault.FileFault.{FileFault}
-use Rattle.mdoc_program.specs.declared.file_fault.FileFault.TheVariants as faults
-use Rattle.mdoc_program.specs.declared.role.Role.{Role}
-use Rattle.mdoc_program.specs.declared.role.Role.TheVariants as roles
-use Rattle.mdoc_program.specs.declared.status.Status.{Status}
-use Rattle.mdoc_program.specs.declared.status.Status.TheVariants as statuses
-use Rattle.mdoc_program.proofs.CommandLemmas.{IsEnd, work_ends}
+use Rattle.mdoc_frame.specs.Wishes.{wishes_of}
+use Rattle.mdoc_frame.specs.declared.file_fault.FileFault.{FileFault}
+use Rattle.mdoc_frame.specs.declared.file_fault.FileFault.TheVariants as faults
+use Rattle.mdoc_frame.specs.declared.role.Role.{Role}
+use Rattle.mdoc_frame.specs.declared.role.Role.TheVariants as roles
+use Rattle.mdoc_frame.specs.declared.status.Status.{Status}
+use Rattle.mdoc_frame.specs.declared.status.Status.TheVariants as statuses
+use Rattle.mdoc_program.proofs.CommandLemmas.{IsEndOf, work_ends}
 
 -- ---- the first file that isn't opened
 
@@ -69,9 +69,9 @@ module _ (status : Status) (P : FileName → Answer → Type 0) (to : (file : Fi
       ap (λ (r : Result Content Status). (if_opened r (λ content. after_reads files answers (λ contents. work (content ∷ contents)))).status) later.0.1
       ∙ there files answers (λ contents. work (later.0.0 ∷ contents)) later.1
 
-  exactly : (o : Order) (clock : ℤ) (told : Talks) (answers : List Answer) → (IsEnd o.command status → ⊥) → ((outcome o clock told answers).status ≡ status) ↔ AtFirst P (files_named o) answers
+  exactly : (o : Order) (clock : ℤ) (told : Talks) (answers : List Answer) → (IsEndOf o.command status → ⊥) → ((outcome o clock told answers).status ≡ status) ↔ AtFirst P (files_named o) answers
   exactly o clock told answers no_end = (
-    only (files_named o) answers (work_of o.command o.words clock told) (λ contents is. no_end (subst (IsEnd o.command) is (work_ends o.command o.words clock told contents))),
+    only (files_named o) answers (work_of o.command o.words clock told) (λ contents is. no_end (subst (IsEndOf o.command) is (work_ends o.command o.words clock told contents))),
     there (files_named o) answers (work_of o.command o.words clock told),
   )
 
@@ -257,7 +257,7 @@ done-prints : (stop : Stop) (outcome : Outcome) (told now : Option (List SinkCal
 done-prints End outcome told now is printed = printed
 done-prints (FileFailed files file) outcome told now is printed = absurd cc
 done-prints (LineFailed lines line) outcome told now is printed = absurd cc
-done-prints (Wanting files lines) outcome told now is printed = absurd cc
+done-prints (OutOfMemory files lines) outcome told now is printed = absurd cc
 
 pub done_prints_all : DonePrintsAll
 done_prints_all o clock before now from to runs = done-prints runs.run.stop (outcome o clock runs.told runs.run.answers) before.sink.told now.sink.told runs.run.answer runs.run.printed

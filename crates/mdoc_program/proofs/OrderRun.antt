@@ -3,23 +3,24 @@ use Rattle.std.proofs.Common.{◌≡◌, ℕ, ℤ, true, false, List, [], ◌∷
 use Rattle.std.specs.Prelude.{IfSome, IsNone, ◌↔◌}
 use Rattle.mdoc_outside.specs.Faults.{Rose}
 use Rattle.mdoc_outside.specs.OptionSteps.{◌>>=◌, where_true}
-use Rattle.mdoc_outside.specs.State.{State}
-use Rattle.mdoc_outside.specs.declared.sink_call.SinkCall.{SinkCall}
-use Rattle.mdoc_program.specs.Asking.{AreSame, AskCauses, Sources, no_talks}
+use Rattle.mdoc_draft.specs.Draft.{draft_outcome, draft_row}
+use Rattle.mdoc_draft.proofs.DraftLemmas.{draft_does}
+use Rattle.mdoc_frame.specs.Asking.{AskCauses, Sources}
+use Rattle.mdoc_frame.specs.Content.{Content}
+use Rattle.mdoc_frame.specs.Outcome.{Answer, Failed, FileName, Found, Outcome, after_reads, if_opened, named_files}
+use Rattle.mdoc_frame.specs.Pairs.{is_in_form}
+use Rattle.mdoc_frame.specs.Run.{AreOpened, Causes, End, FileFailed, IsFaultless, LineFailed, Stop, OutOfMemory, status_at}
+use Rattle.mdoc_frame.specs.Steps.{Does, Ends, Opens}
+use Rattle.mdoc_frame.specs.World.{World}
+use Rattle.mdoc_frame.specs.declared.status.Status.{Status}
+use Rattle.mdoc_frame.specs.declared.status.Status.TheVariants as statuses
+use Rattle.mdoc_frame.proofs.RunLemmas.{does_run}
 use Rattle.mdoc_program.specs.Commands.{asks_of, work_of}
-use Rattle.mdoc_program.specs.Content.{Content, OfRules, OfStore, OfWishes}
-use Rattle.mdoc_program.specs.Draft.{draft_of, draft_outcome}
-use Rattle.mdoc_program.specs.Order.{Order, command_of, is_in_form, order, row}
-use Rattle.mdoc_program.specs.Outcome.{Answer, Failed, FileName, Found, Outcome, after_reads, files_named, if_opened, only_status}
-use Rattle.mdoc_program.specs.Run.{AreOpened, Causes, End, FileFailed, IsComplete, IsFaultless, LineFailed, Runs, Stop, Wanting, status_at}
-use Rattle.mdoc_program.specs.Steps.{Does, Ends, Opens, OrMemory, Prints, PutEnds, WriteEnds, WritesFiles, Works}
-use Rattle.mdoc_program.specs.World.{World, after_put, after_read, after_write}
+use Rattle.mdoc_program.specs.Order.{Order, command_of, files_named, order, row}
+use Rattle.mdoc_program.specs.Runs.{IsComplete, Runs}
 use Rattle.mdoc_program.specs.declared.command.Command.{Command}
 use Rattle.mdoc_program.specs.declared.command.Command.TheVariants.{Draft, Import, Issue}
-use Rattle.mdoc_program.specs.declared.status.Status.{Status}
-use Rattle.mdoc_program.specs.declared.status.Status.TheVariants as statuses
-use Rattle.mdoc_program.proofs.CommandLemmas.{IsEnd, wanting, work_ends, works}
-use Rattle.mdoc_program.proofs.RunLemmas.{does_run, gained-nothing, same-sources}
+use Rattle.mdoc_program.proofs.CommandLemmas.{IsEndOf, wanting, work_ends, works}
 
 -- ---- words in form
 
@@ -42,13 +43,13 @@ in_form (word ∷ words) o is = in-row (command_of word) words o is
 -- ---- a run that is complete
 
 opened-ends : (command : Command) (files : List FileName) (answers : List Answer) (work : List Content → Outcome) →
-    ((contents : List Content) → IsEnd command (work contents).status) → AreOpened files answers → IsEnd command (after_reads files answers work).status
+    ((contents : List Content) → IsEndOf command (work contents).status) → AreOpened files answers → IsEndOf command (after_reads files answers work).status
 opened-ends command [] answers work ends all = ends []
 opened-ends command (file ∷ files) [] work ends all = absurd all
 opened-ends command (file ∷ files) (Failed ∷ answers) work ends all = absurd all.0
 opened-ends command (file ∷ files) ((Found found) ∷ answers) work ends all =
     let content : Content = all.0.0 in
-    subst (λ (r : Result Content Status). IsEnd command (if_opened r (λ x. after_reads files answers (λ contents. work (x ∷ contents)))).status) (sym all.0.1)
+    subst (λ (r : Result Content Status). IsEndOf command (if_opened r (λ x. after_reads files answers (λ contents. work (x ∷ contents)))).status) (sym all.0.1)
     (opened-ends command files answers (λ contents. work (content ∷ contents)) (λ contents. ends (content ∷ contents)) all.1)
 
 -- a device or the dice that failed raised a count
@@ -56,7 +57,7 @@ no-device : (from to : Sources) → AskCauses statuses.Device from to → (Rose 
 no-device from to (inl wallet) no_wallet no_reader = no_wallet wallet.wallet
 no-device from to (inr reader) no_wallet no_reader = no_reader reader.reader
 
-end-complete : (command : Command) (status : Status) (from to : Sources) → IsEnd command status → AskCauses status from to →
+end-complete : (command : Command) (status : Status) (from to : Sources) → IsEndOf command status → AskCauses status from to →
     (Rose from.wallet_faults to.wallet_faults → ⊥) → (Rose from.reader_faults to.reader_faults → ⊥) → (Rose from.dice_faults to.dice_faults → ⊥) → IsComplete command status
 end-complete command statuses.Done from to ends asking wallet reader dice = tt
 end-complete command statuses.Usage from to ends asking wallet reader dice = absurd ends
@@ -70,15 +71,15 @@ end-complete command statuses.Verdict from to ends asking wallet reader dice = e
 end-complete command (statuses.Limit limit number) from to ends asking wallet reader dice = ends
 end-complete command statuses.Memory from to ends asking wallet reader dice = tt
 
-by-stop : (command : Command) (stop : Stop) (outcome : Outcome) (status : Status) (before now : World) (from to : Sources) → status ≡ status_at stop outcome → IsEnd command outcome.status →
+by-stop : (command : Command) (stop : Stop) (outcome : Outcome) (status : Status) (before now : World) (from to : Sources) → status ≡ status_at stop outcome → IsEndOf command outcome.status →
     Causes status before.cabinet.faults now.cabinet.faults before.sink.faults now.sink.faults → AskCauses status from to → IsFaultless before now from to → IsComplete command status
 by-stop command End outcome status before now from to is ends causes asking faultless =
-    end-complete command status from to (subst (IsEnd command) (sym is) ends) asking faultless.wallet faultless.reader faultless.dice
+    end-complete command status from to (subst (IsEndOf command) (sym is) ends) asking faultless.wallet faultless.reader faultless.dice
 by-stop command (FileFailed files file) outcome status before now from to is ends causes asking faultless =
     absurd (faultless.cabinet (subst (λ (s : Status). Causes s before.cabinet.faults now.cabinet.faults before.sink.faults now.sink.faults) is causes).0)
 by-stop command (LineFailed lines line) outcome status before now from to is ends causes asking faultless =
     absurd (faultless.sink (subst (λ (s : Status). Causes s before.cabinet.faults now.cabinet.faults before.sink.faults now.sink.faults) is causes).0)
-by-stop command (Wanting files lines) outcome status before now from to is ends causes asking faultless = subst (IsComplete command) (sym is) tt
+by-stop command (OutOfMemory files lines) outcome status before now from to is ends causes asking faultless = subst (IsComplete command) (sym is) tt
 
 -- ---- the clauses
 
@@ -113,70 +114,13 @@ no_usage words o clock from to before now status is does =
       λ none. let absent : IsNone (Some o) = subst (λ (found : Option Order). IsNone found) (sym is) none in absurd cc,
     )
 
--- ---- `draft`, which asks nothing
-
--- a status that neither a put nor a write ends a run with is that of the outcome
-module _ (status last : Status) (no_put : (line : List ℕ) (old new : State (List SinkCall)) → PutEnds line old new status → ⊥)
-    (no_write : (file : List ℕ × List ℕ) (old new : World) → WriteEnds file old new status → ⊥) (is_last : OrMemory status last → status ≡ last) where
-  prints-last : (lines : List (List ℕ)) (old new : State (List SinkCall)) → Prints lines last old new status → status ≡ last
-  prints-last [] old new prints = is_last prints.1
-  prints-last (line ∷ lines) old new (inl ends) = absurd (no_put line old new ends)
-  prints-last (line ∷ lines) old new (inr rest) = prints-last lines (after_put line old) new rest
-
-  writes-last : (files : List (List ℕ × List ℕ)) (lines : List (List ℕ)) (old new : World) → WritesFiles files lines last old new status → status ≡ last
-  writes-last [] lines old new writes = prints-last lines old.sink new.sink writes.1
-  writes-last (file ∷ files) lines old new (inl ends) = absurd (no_write file old new ends)
-  writes-last (file ∷ files) lines old new (inr rest) = writes-last files lines (after_write file old) new rest
-
--- an outcome that tells no fault of a device or of the dice, where no count of theirs rose
-pub ends_asking : (outcome : Outcome) (before now : World) (status : Status) (from to : Sources) →
-    (statuses.Device ≡ outcome.status → ⊥) → (statuses.Dice ≡ outcome.status → ⊥) → AreSame from to → Ends outcome before now status → AskCauses status from to
-ends_asking outcome before now statuses.Done from to device dice same ends = same
-ends_asking outcome before now statuses.Usage from to device dice same ends = same
-ends_asking outcome before now (statuses.Missing role) from to device dice same ends = same
-ends_asking outcome before now statuses.Cabinet from to device dice same ends = same
-ends_asking outcome before now (statuses.Form role check at) from to device dice same ends = same
-ends_asking outcome before now statuses.Sink from to device dice same ends = same
-ends_asking outcome before now statuses.Device from to device dice same ends =
-    absurd (device (writes-last statuses.Device outcome.status (λ line old new e. e) (λ file old new e. e) (λ e. e) outcome.files outcome.lines before now ends))
-ends_asking outcome before now statuses.Dice from to device dice same ends =
-    absurd (dice (writes-last statuses.Dice outcome.status (λ line old new e. e) (λ file old new e. e) (λ e. e) outcome.files outcome.lines before now ends))
-ends_asking outcome before now statuses.Verdict from to device dice same ends = same
-ends_asking outcome before now (statuses.Limit limit number) from to device dice same ends = same
-ends_asking outcome before now statuses.Memory from to device dice same ends = same
-
-draft-asking : (contents : List Content) (before now : World) (status : Status) (from to : Sources) → AreSame from to → Ends (draft_outcome contents) before now status → AskCauses status from to
-draft-asking ((OfStore file) ∷ ((OfWishes asked) ∷ ((OfRules rules) ∷ []))) before now status from to same ends = ends_asking (draft_of file asked rules) before now status from to (λ e. cc) (λ e. cc) same ends
-draft-asking contents before now status from to same ends = ends_asking (only_status statuses.Memory) before now status from to (λ e. cc) (λ e. cc) same ends
-
-opens-as : (files : List FileName) (rest other : List Content → World → World → Status → Type 0) (nothing nothing_else : Type 0) (old now : World) (status : Status) →
-    ((contents : List Content) (between : World) → rest contents between now status → other contents between now status) → (nothing → nothing_else) →
-    Opens files rest nothing old now status → Opens files other nothing_else old now status
-opens-as [] rest other nothing nothing_else old now status each none opens = each [] old opens
-opens-as (file ∷ files) rest other nothing nothing_else old now status each none (inl ends) = inl (ends.0, ends.1, none ends.2)
-opens-as (file ∷ files) rest other nothing nothing_else old now status each none (inr on) = inr (record {
-  found = on.found;
-  content = on.content;
-  held = on.held;
-  opens = on.opens;
-  goes_on = opens-as files (λ contents. rest (on.content ∷ contents)) (λ contents. other (on.content ∷ contents)) nothing nothing_else (after_read file.name on.found old) now status
-      (λ contents between. each (on.content ∷ contents) between) none on.goes_on;
-})
-
-draft_does : (words : List (List ℕ)) (clock : ℤ) (from : Sources) (before now : World) (status : Status) →
-    Opens (files_named (record { command = Draft; words = words })) (λ contents. Ends (draft_outcome contents)) (Unit {0}) before now status →
-    DoesOrder (record { command = Draft; words = words }) clock from from before now status
-draft_does words clock from before now status opens =
-    opens-as (files_named (record { command = Draft; words = words })) (λ contents. Ends (draft_outcome contents)) (Works (work_of Draft words clock) (asks_of Draft words clock) from from) (Unit {0}) (from ≡ from) before now status
-    (λ contents between ends. (no_talks, gained-nothing from.talks, refl, draft-asking contents between now status from from (same-sources from) ends, ends)) (λ u. refl) opens
-
 -- ---- the arms of the commands
 
 pub draft_arm : (command : Command) (words : List (List ℕ)) (clock : ℤ) (from : Sources) (before now : World) (status : Status) → command ≡ Draft →
-    Opens (files_named (record { command = Draft; words = words })) (λ contents. Ends (draft_outcome contents)) (Unit {0}) before now status →
+    Opens (named_files draft_row words) (λ contents. Ends (draft_outcome contents)) (Unit {0}) before now status →
     DoesOrder (record { command = command; words = words }) clock from from before now status
 draft_arm command words clock from before now status is opens =
-    subst (λ (c : Command). DoesOrder (record { command = c; words = words }) clock from from before now status) (sym is) (draft_does words clock from before now status opens)
+    subst (λ (c : Command). DoesOrder (record { command = c; words = words }) clock from from before now status) (sym is) (draft_does words from before now status opens)
 
 pub issue_arm : (command : Command) (words : List (List ℕ)) (clock : ℤ) (from to : Sources) (before now : World) (status : Status) → command ≡ Issue →
     DoesOrder (record { command = Issue; words = words }) clock from to before now status → DoesOrder (record { command = command; words = words }) clock from to before now status

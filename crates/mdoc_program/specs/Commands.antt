@@ -1,32 +1,15 @@
 -- The outcome of each command, and what it asks.
-use Rattle.std.specs.Prelude.{◌≡◌, ℕ, ℤ, pos, List, [], Option, Some, None, codes, unwrap_or}
-use Rattle.std.specs.Str.Parse.{digits_value}
-use Rattle.mdoc_program.specs.Asking.{Talks, no_talks}
-use Rattle.mdoc_program.specs.Content.{Content}
-use Rattle.mdoc_program.specs.Draft.{draft_outcome}
-use Rattle.mdoc_program.specs.Import.{import_asks, import_outcome}
-use Rattle.mdoc_program.specs.Issue.{issue_asks, issue_outcome}
-use Rattle.mdoc_program.specs.Order.{Order, value_of}
-use Rattle.mdoc_program.specs.Outcome.{Answer, Outcome, after_reads, files_named}
+use Rattle.std.specs.Prelude.{◌≡◌, ℕ, ℤ, List}
+use Rattle.mdoc_frame.specs.Asking.{Talks, no_talks}
+use Rattle.mdoc_frame.specs.Content.{Content}
+use Rattle.mdoc_draft.specs.Draft.{draft_outcome}
+use Rattle.mdoc_import.specs.Import.{import_asks, import_outcome, moment_of, store_of}
+use Rattle.mdoc_issue.specs.Issue.{issue_asks, issue_outcome, out_of}
+use Rattle.mdoc_frame.specs.Outcome.{Answer, Outcome, after_reads}
+use Rattle.mdoc_program.specs.Order.{Order, files_named}
 use Rattle.mdoc_program.specs.declared.command.Command.{Command}
 use Rattle.mdoc_program.specs.declared.command.Command.TheVariants.{Draft, Import, Issue}
-use Rattle.mdoc_program.specs.declared.status.Status.{Status}
-
--- the value of `--out`, which has to be there
-abbrev pub out_of : List (List ℕ) → List ℕ
-out_of words = unwrap_or (value_of (codes "--out") words) []
-
--- the value of `--store`, which has to be there
-abbrev pub store_of : List (List ℕ) → List ℕ
-store_of words = unwrap_or (value_of (codes "--store") words) []
-
--- the value of `--moment`, or else what the clock says, in seconds since 1970
-abbrev pub or_clock : Option (List ℕ) → ℤ → ℤ
-or_clock None clock = clock
-or_clock (Some word) clock = pos (digits_value 10 word)
-
-abbrev pub moment_of : List (List ℕ) → ℤ → ℤ
-moment_of words clock = or_clock (value_of (codes "--moment") words) clock
+use Rattle.mdoc_frame.specs.declared.status.Status.{Status}
 
 -- the work of a command with these words, once its files are opened, by what the clock says, the devices told and the dice
 -- dealt

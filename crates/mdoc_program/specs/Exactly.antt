@@ -2,16 +2,17 @@
 use Rattle.std.specs.Prelude.{◌≡◌, true, ℕ, ℤ, List, [], ◌∷◌, ◌++◌, map, None, option_map, Err, ◌↔◌, ◌⊎◌}
 use Rattle.mdoc_outside.specs.declared.limit_name.LimitName.{LimitName}
 use Rattle.mdoc_outside.specs.declared.sink_call.SinkCall.TheVariants.{Put}
-use Rattle.mdoc_program.specs.Asking.{Sources, Talks}
+use Rattle.mdoc_frame.specs.Asking.{Sources, Talks}
 use Rattle.mdoc_program.specs.Commands.{outcome, work_of}
-use Rattle.mdoc_program.specs.Order.{Order}
-use Rattle.mdoc_program.specs.Outcome.{Answer, Failed, FileName, Found, file_content, files_named}
-use Rattle.mdoc_program.specs.Run.{AreOpened, AsksAfter, IsOpened, Runs}
-use Rattle.mdoc_program.specs.World.{World}
-use Rattle.mdoc_program.specs.declared.form_check.FormCheck.{FormCheck}
-use Rattle.mdoc_program.specs.declared.role.Role.{Role}
-use Rattle.mdoc_program.specs.declared.status.Status.{Status}
-use Rattle.mdoc_program.specs.declared.status.Status.TheVariants.{Cabinet, Done, Form, Limit, Missing}
+use Rattle.mdoc_program.specs.Order.{Order, files_named}
+use Rattle.mdoc_frame.specs.Outcome.{Answer, Failed, FileName, Found, file_content}
+use Rattle.mdoc_frame.specs.Run.{AreOpened, AsksAfter, IsOpened}
+use Rattle.mdoc_program.specs.Runs.{Runs}
+use Rattle.mdoc_frame.specs.World.{World}
+use Rattle.mdoc_frame.specs.declared.form_check.FormCheck.{FormCheck}
+use Rattle.mdoc_frame.specs.declared.role.Role.{Role}
+use Rattle.mdoc_frame.specs.declared.status.Status.{Status}
+use Rattle.mdoc_frame.specs.declared.status.Status.TheVariants.{Cabinet, Done, Form, Limit, Missing}
 
 -- a fact of the first file that isn't opened, and of the answer to its read
 abbrev pub AtFirst : (FileName → Answer → Type 0) → List FileName → List Answer → Type 0

@@ -10,11 +10,11 @@ use Rattle.cbor_view.proofs.Places.{within-within}
 use Rattle.cbor_view.proofs.ReadParts.{string_moved}
 use Rattle.cbor_maps.specs.declared.map_fault.MapFault.{MapFault}
 use Rattle.cbor_maps.specs.declared.map_fault.MapFault.TheVariants as maps
-use Rattle.cbor_maps.specs.Reading.{any_in, distinct, encoded_in, entry, field}
+use Rattle.cbor_maps.specs.Reading.{any_in, distinct, encoded_in, entry, field, map_fault, tagged_string, spelled_item}
 use Rattle.cbor_maps.proofs.Within.{field-read, given, step, under-lies}
 use Rattle.issuer_items.specs.declared.item_fault.ItemFault.{ItemFault}
 use Rattle.issuer_items.specs.declared.item_fault.ItemFault.TheVariants as faults
-use Rattle.issuer_items.specs.Item.{Item, item, item_of_map, map_fault, spelled_item, tagged_string}
+use Rattle.issuer_items.specs.Item.{Item, item, item_of_map}
 use Rattle.message_laws.specs.ItemLies.{ItemLies}
 use Rattle.message_laws.specs.StringLies.{StringLies, in_string, whole_part}
 use Rattle.message_laws.proofs.Strings.{bytes-lie, in-string-lies, text-lies, whole-lies}
@@ -77,7 +77,7 @@ map-fields map it e =
 
 -- ---- the tagged string
 
-fault-ok : (r : Result Item MapFault) (it : Item) → map_fault r ≡ Ok it → r ≡ Ok it
+fault-ok : (r : Result Item MapFault) (it : Item) → map_fault faults.Doubled faults.Field r ≡ Ok it → r ≡ Ok it
 fault-ok (Ok x) it e = cc
 fault-ok (Err (maps.Doubled name)) it e = absurd (cc)
 fault-ok (Err (maps.Field name)) it e = absurd (cc)
@@ -86,15 +86,15 @@ fault-ok (Err (maps.Field name)) it e = absurd (cc)
 record IsTagged (all part : Part) (inside : List ℕ) : Type 0 where
   string : Part
   under_tag : tagged 24 part ≡ Some string
-  lies : StringLies bytes_in all string inside
+  stands_in : StringLies bytes_in all string inside
 
 string-tagged : (all part : Part) (inside : List ℕ) → LiesIn all part → encoded_in part ≡ Some inside → IsTagged all part inside
-string-tagged all part inside lies e = go (tag_in part) refl e where
+string-tagged all part inside stands_in e = go (tag_in part) refl e where
   choose : (n : ℕ) (q : Part) → tag_in part ≡ Some (n, q) → (t : Bool) → (n == 24) ≡ t → option_and_then bytes_in (if t then Some q else None) ≡ Some inside → IsTagged all part inside
   choose n q tag true is e = record {
     string = q;
     under_tag = ap (option_and_then (under 24)) tag ∙ ap (λ (t : Bool). if t then Some q else None) is;
-    lies = bytes-lie all q inside (within-within all part q lies (tagged-lies part q n tag)) e;
+    stands_in = bytes-lie all q inside (within-within all part q stands_in (tagged-lies part q n tag)) e;
   }
   choose n q tag false is e = absurd (cc)
 
@@ -102,41 +102,41 @@ string-tagged all part inside lies e = go (tag_in part) refl e where
   go None tag e = absurd (cc)
   go (Some (n, q)) tag e = choose n q tag (n == 24) refl e
 
-inside-is : (part : Part) (r : Result Part CborFault) (inside : List ℕ) → cbor part.bytes ≡ r → tagged_string r ≡ Ok inside → encoded_in part ≡ Some inside
+inside-is : (part : Part) (r : Result Part CborFault) (inside : List ℕ) → cbor part.bytes ≡ r → tagged_string faults.NotTagged r ≡ Ok inside → encoded_in part ≡ Some inside
 inside-is part (Err fault) inside read e = absurd (cc)
 inside-is part (Ok whole) inside read e =
     let same : whole ≡ whole_part part.bytes = (whole-lies part.bytes whole read).0 in
     string_moved 24 part (whole_part part.bytes) refl ∙ sym (ap encoded_in same) ∙ given faults.NotTagged (encoded_in whole) inside e
 
-map-is-whole : (inside : List ℕ) (r : Result Part CborFault) (map : Part) → cbor inside ≡ r → spelled_item r ≡ Ok map → map ≡ whole_part inside
+map-is-whole : (inside : List ℕ) (r : Result Part CborFault) (map : Part) → cbor inside ≡ r → spelled_item faults.Cbor r ≡ Ok map → map ≡ whole_part inside
 map-is-whole inside (Err fault) map read e = absurd (cc)
 map-is-whole inside (Ok p) map read e = let same : p ≡ map = cc in sym same ∙ (whole-lies inside p read).0
 
 -- ---- the item
 
 abbrev read_map : Part → Result Item ItemFault
-read_map map = map_fault (item_of_map map)
+read_map map = map_fault faults.Doubled faults.Field (item_of_map map)
 
 abbrev read_string : List ℕ → Result Item ItemFault
-read_string inside = spelled_item (cbor inside) >>= read_map
+read_string inside = spelled_item faults.Cbor (cbor inside) >>= read_map
 
 -- a field of the map that the string is
 field-lies : (all string : Part) (inside : List ℕ) (value : Part) (name : KeyName) → StringLies bytes_in all string inside → entry (whole_part inside) name ≡ Ok (Some value)
     → LiesIn all (in_string (body_of string inside) value)
-field-lies all string inside value name lies under = in-string-lies all (body_of string inside) value lies.string_lies (under-lies (whole_part inside) value name under)
+field-lies all string inside value name stands_in under = in-string-lies all (body_of string inside) value stands_in.string_lies (under-lies (whole_part inside) value name under)
 
 pub item-lies : (all part : Part) (it : Item) → LiesIn all part → item part.bytes ≡ Ok it → ItemLies all part it
 unfolding item
-item-lies all part it lies e =
-    let a = step (tagged_string (cbor part.bytes)) read_string it e in
-    let b = step (spelled_item (cbor a.value)) read_map it a.after in
-    let tag = string-tagged all part a.value lies (inside-is part (cbor part.bytes) a.value refl a.is) in
+item-lies all part it stands_in e =
+    let a = step (tagged_string faults.NotTagged (cbor part.bytes)) read_string it e in
+    let b = step (spelled_item faults.Cbor (cbor a.value)) read_map it a.after in
+    let tag = string-tagged all part a.value stands_in (inside-is part (cbor part.bytes) a.value refl a.is) in
     let own : b.value ≡ whole_part a.value = map-is-whole a.value (cbor a.value) b.value refl b.is in
     let fields = map-fields (whole_part a.value) it (subst (λ (p : Part). item_of_map p ≡ Ok it) own (fault-ok (item_of_map b.value) it b.after)) in
     let inside = body_of tag.string a.value in
-    let random = field-lies all tag.string a.value fields.random keys.Random tag.lies fields.under_random in
-    let name = field-lies all tag.string a.value fields.name keys.ElementIdentifier tag.lies fields.under_name in
-    let value = field-lies all tag.string a.value fields.value keys.ElementValue tag.lies fields.under_value in
+    let random = field-lies all tag.string a.value fields.random keys.Random tag.stands_in fields.under_random in
+    let name = field-lies all tag.string a.value fields.name keys.ElementIdentifier tag.stands_in fields.under_name in
+    let value = field-lies all tag.string a.value fields.value keys.ElementValue tag.stands_in fields.under_value in
     record {
       string = tag.string;
       map = a.value;
@@ -144,7 +144,7 @@ item-lies all part it lies e =
       name = fields.name;
       value = fields.value;
       under_tag = tag.under_tag;
-      map_lies = tag.lies;
+      map_lies = tag.stands_in;
       under_random = fields.under_random;
       under_name = fields.under_name;
       under_value = fields.under_value;

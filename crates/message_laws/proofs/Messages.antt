@@ -30,10 +30,10 @@ map-is p q is = go (pairs_in p) is where
   go (Some entries) e = cc
 
 payload-lies : (all p : Part) (o : Option (List ℕ)) → LiesIn all p → bytes_or_null p ≡ Some o → IfSome o (StringLies bytes_in all p)
-payload-lies all p o lies is = by_null (is_null (tree_in p)) is where
+payload-lies all p o stands_in is = by_null (is_null (tree_in p)) is where
   by_bytes : (b : Option (List ℕ)) → bytes_in p ≡ b → option_map (λ (x : List ℕ). Some x) b ≡ Some o → IfSome o (StringLies bytes_in all p)
   by_bytes None read e = absurd (cc)
-  by_bytes (Some b) read e = let same : Some b ≡ o = cc in subst (λ (x : Option (List ℕ)). IfSome x (StringLies bytes_in all p)) same (bytes-lie all p b lies read)
+  by_bytes (Some b) read e = let same : Some b ≡ o = cc in subst (λ (x : Option (List ℕ)). IfSome x (StringLies bytes_in all p)) same (bytes-lie all p b stands_in read)
 
   by_null : (n : Bool) → (if n then Some None else option_map (λ (x : List ℕ). Some x) (bytes_in p)) ≡ Some o → IfSome o (StringLies bytes_in all p)
   by_null true e = let same : None ≡ o = cc in subst (λ (x : Option (List ℕ)). IfSome x (StringLies bytes_in all p)) same tt
@@ -103,23 +103,23 @@ array-lies tag all item (a ∷ b ∷ c ∷ d ∷ f ∷ gs) m is lie e = absurd (
 untagged-lies : (tag : ℕ) (p : Part) → LiesIn p (untagged tag p)
 untagged-lies tag p = go (tag_in p) refl where
   choose : (b : Bool) (q : Part) → LiesIn p q → LiesIn p (unwrap_or (if b then Some q else None) p)
-  choose true q lies = lies
-  choose false q lies = self-lies p
+  choose true q stands_in = stands_in
+  choose false q stands_in = self-lies p
 
   go : (o : Option (ℕ × Part)) → tag_in p ≡ o → LiesIn p (unwrap_or (option_and_then (under tag) o) p)
   go None is = self-lies p
   go (Some (n, q)) is = choose (n == tag) q (tagged-lies p q n is)
 
 each-within : (all p : Part) (parts : List Part) → LiesIn all p → AllLieIn p parts → AllLieIn all parts
-each-within all p [] lies each = tt
-each-within all p (q ∷ qs) lies each = (within-within all p q lies each.0, each-within all p qs lies each.1)
+each-within all p [] stands_in each = tt
+each-within all p (q ∷ qs) stands_in each = (within-within all p q stands_in each.0, each-within all p qs stands_in each.1)
 
 message-lies : (tag : ℕ) (all item : Part) (m : Message) → LiesIn all item → message_of tag item ≡ Ok m → MessageLies tag all item m
-message-lies tag all item m lies e = go (items_in (untagged tag item)) refl e where
+message-lies tag all item m stands_in e = go (items_in (untagged tag item)) refl e where
   go : (o : Option (List Part)) → items_in (untagged tag item) ≡ o → of_array o ≡ Ok m → MessageLies tag all item m
   go None is e = absurd (cc)
   go (Some parts) is e =
-      let inner = within-within all item (untagged tag item) lies (untagged-lies tag item) in
+      let inner = within-within all item (untagged tag item) stands_in (untagged-lies tag item) in
       array-lies tag all item parts m is (each-within all (untagged tag item) parts inner (items-lie (untagged tag item) parts is)) e
 
 -- ---- the certificate of a signature
@@ -128,30 +128,30 @@ first-lies : (all map value : Part) (parts : List Part) (b : List ℕ) → label
 first-lies all map value [] b under is lie e = absurd (cc)
 first-lies all map value (p ∷ ps) b under is lie e = go (list_all is_bytes ps) e where
   go : (t : Bool) → if_all t (bytes_in p) ≡ Some b → CertificateLies all map b
-  go true e = record { value = value; item = p; under = under; first = inr (ps, is); lies = bytes-lie all p b lie.0 e }
+  go true e = record { value = value; item = p; under = under; first = inr (ps, is); stands_in = bytes-lie all p b lie.0 e }
   go false e = absurd (cc)
 
 value-lies : (all map value : Part) (b : List ℕ) → labelled map (pos 33) ≡ Ok (Some value) → LiesIn all value → first_certificate value ≡ Some b → CertificateLies all map b
-value-lies all map value b under lies e = by_bytes (bytes_in value) refl e where
+value-lies all map value b under stands_in e = by_bytes (bytes_in value) refl e where
   by_items : (o : Option (List Part)) → items_in value ≡ o → first_of o ≡ Some b → CertificateLies all map b
   by_items None is e = absurd (cc)
-  by_items (Some parts) is e = first-lies all map value parts b under is (each-within all value parts lies (items-lie value parts is)) e
+  by_items (Some parts) is e = first-lies all map value parts b under is (each-within all value parts stands_in (items-lie value parts is)) e
 
   by_bytes : (o : Option (List ℕ)) → bytes_in value ≡ o → bytes_or o (first_of (items_in value)) ≡ Some b → CertificateLies all map b
   by_bytes None is e = by_items (items_in value) refl e
   by_bytes (Some c) is e =
       let same : c ≡ b = cc in
-      record { value = value; item = value; under = under; first = inl refl; lies = bytes-lie all value b lies (is ∙ ap (λ (x : List ℕ). Some x) same) }
+      record { value = value; item = value; under = under; first = inl refl; stands_in = bytes-lie all value b stands_in (is ∙ ap (λ (x : List ℕ). Some x) same) }
 
 pub label-lies : (map value : Part) (n : ℤ) → labelled map n ≡ Ok (Some value) → LiesIn map value
 unfolding labelled
 label-lies map value n is = entry-lies map value (Number n) is
 
 chain-lies : (all map : Part) (o : Option (List ℕ)) → LiesIn all map → chain_in map ≡ o → IfSome o (CertificateLies all map)
-chain-lies all map None lies e = tt
-chain-lies all map (Some b) lies e = go (labelled map (pos 33)) refl e where
+chain-lies all map None stands_in e = tt
+chain-lies all map (Some b) stands_in e = go (labelled map (pos 33)) refl e where
   go : (r : Result (Option Part) Doubled) → labelled map (pos 33) ≡ r → certificate_in r ≡ Some b → CertificateLies all map b
-  go (Ok (Some value)) is e = value-lies all map value b is (within-within all map value lies (label-lies map value (pos 33) is)) e
+  go (Ok (Some value)) is e = value-lies all map value b is (within-within all map value stands_in (label-lies map value (pos 33) is)) e
   go (Ok None) is e = absurd (cc)
   go (Err twice) is e = absurd (cc)
 
@@ -186,14 +186,14 @@ signed-lies all item m signature read last = subst (λ (b : List ℕ). Signature
 })
 
 pub signature-lies : (all item : Part) (s : Signed) → LiesIn all item → sign1 item ≡ Ok s → SignatureLies all item s
-signature-lies all item s lies e =
+signature-lies all item s stands_in e =
     let m = step (message_of 18 item) from_message s e in
     let h = step (headers_of m.value) (from_header m.value) s m.after in
     let a = step (check Algorithm (has_algorithm (negsuc 6) h.value)) (from_algorithm m.value) s h.after in
     let l = step (or_fault SignatureLength (of_length 64 (Some m.value.last))) (with_signature m.value) s a.after in
     let own : m.value.last ≡ l.value = of-length 64 m.value.last l.value (given SignatureLength (of_length 64 (Some m.value.last)) l.value l.is) in
     let same : signed_by m.value l.value ≡ s = (let e = l.after in cc) in
-    subst (SignatureLies all item) same (signed-lies all item m.value l.value (message-lies 18 all item m.value lies m.is) own)
+    subst (SignatureLies all item) same (signed-lies all item m.value l.value (message-lies 18 all item m.value stands_in m.is) own)
 
 abbrev with_tag : Message → List ℕ → Result Authenticated CoseFault
 with_tag m tag = Ok (record { protected = m.protected; payload = m.payload; tag = tag })
@@ -208,12 +208,12 @@ abbrev from_code_message : Message → Result Authenticated CoseFault
 from_code_message m = headers_of m >>= from_code_header m
 
 pub code-lies : (all item : Part) (code : Authenticated) → LiesIn all item → mac0 item ≡ Ok code → CodeLies all item code
-code-lies all item code lies e =
+code-lies all item code stands_in e =
     let m = step (message_of 17 item) from_code_message code e in
     let h = step (headers_of m.value) (from_code_header m.value) code m.after in
     let a = step (check Algorithm (has_algorithm (pos 5) h.value)) (from_code m.value) code h.after in
     let l = step (or_fault TagLength (of_length 32 (Some m.value.last))) (with_tag m.value) code a.after in
     let own : m.value.last ≡ l.value = of-length 32 m.value.last l.value (given TagLength (of_length 32 (Some m.value.last)) l.value l.is) in
     let same : record { protected = m.value.protected; payload = m.value.payload; tag = l.value } ≡ code = (let e = l.after in cc) in
-    let read = message-lies 17 all item m.value lies m.is in
+    let read = message-lies 17 all item m.value stands_in m.is in
     subst (CodeLies all item) same (subst (ArrayLies 17 all item m.value.protected m.value.payload) own read.parts)

@@ -15,13 +15,13 @@ self-lies p = record { before = []; after = []; whole = sym (append-nil p.bytes)
 
 -- what ends an item lies where the item does
 pub end-lies : (all p : Part) (rest : List ℕ) → LiesIn all p → EndsWith p.bytes rest → LiesIn all (body_of p rest)
-end-lies all p rest lies ends = within-within all p (body_of p rest) lies (body-lies p.at p.bytes rest ends)
+end-lies all p rest stands_in ends = within-within all p (body_of p rest) stands_in (body-lies p.at p.bytes rest ends)
 
 pub bytes-lie : (all p : Part) (b : List ℕ) → LiesIn all p → bytes_in p ≡ Some b → StringLies bytes_in all p b
-bytes-lie all p b lies is = record { item_lies = lies; content = is; string_lies = end-lies all p b lies (bytes-end p b is) }
+bytes-lie all p b stands_in is = record { item_stands_in_bytes = stands_in; content = is; string_lies = end-lies all p b stands_in (bytes-end p b is) }
 
 pub text-lies : (all p : Part) (b : List ℕ) → LiesIn all p → text_in p ≡ Some b → StringLies text_in all p b
-text-lies all p b lies is = record { item_lies = lies; content = is; string_lies = end-lies all p b lies (text-end p b is) }
+text-lies all p b stands_in is = record { item_stands_in_bytes = stands_in; content = is; string_lies = end-lies all p b stands_in (text-end p b is) }
 
 -- ---- the whole
 
@@ -34,5 +34,5 @@ whole-lies bytes whole is = go (reads bytes) is where
 -- ---- what a string spells
 
 pub in-string-lies : (all string p : Part) → LiesIn all string → LiesIn (whole_part string.bytes) p → LiesIn all (in_string string p)
-in-string-lies all string p lies own =
-    within-within all string (in_string string p) lies (record { before = own.before; after = own.after; whole = own.whole; place = (let place = own.place in omega arith) })
+in-string-lies all string p stands_in own =
+    within-within all string (in_string string p) stands_in (record { before = own.before; after = own.after; whole = own.whole; place = (let place = own.place in omega arith) })

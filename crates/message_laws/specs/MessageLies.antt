@@ -30,7 +30,7 @@ pub record CertificateLies (all map : Part) (certificate : List ℕ) : Type 0 wh
   pub item : Part
   pub under : labelled map (pos 33) ≡ Ok (Some value)
   pub first : IsFirstOf value item
-  pub lies : StringLies bytes_in all item certificate
+  pub stands_in : StringLies bytes_in all item certificate
 
 -- a signature (COSE_Sign1; RFC 9052, section 4.2), whose certificate stands in the unprotected map
 pub record SignatureLies (all item : Part) (signature : Signed) : Type 0 where

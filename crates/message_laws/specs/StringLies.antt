@@ -5,7 +5,7 @@ use Rattle.cbor_view.specs.Parts.{LiesIn, Part, body_of}
 -- A string and the item that it is read of, as bytes or as text: the item lies in others, and so does the string, which
 -- is what follows the item's head, at its place (RFC 8949, section 3.1, major types 2 and 3).
 pub record StringLies (read : Part → Option (List ℕ)) (all item : Part) (string : List ℕ) : Type 0 where
-  pub item_lies : LiesIn all item
+  pub item_stands_in_bytes : LiesIn all item
   pub content : read item ≡ Some string
   pub string_lies : LiesIn all (body_of item string)
 

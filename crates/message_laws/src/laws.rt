@@ -11,28 +11,28 @@ ghost use Rattle.message_laws.specs.MessageLies.{CodeLies, KeyLies, SignatureLie
 ghost use Rattle.message_laws.specs.StringLies.{whole_part};
 
 /// Bytes that are one item lie in themselves, as the laws below ask of an item.
-pub fn whole_lies()
+pub fn whole_stands_in_bytes()
     ensures { (bytes : List ℕ) (whole : Part) → cbor bytes ≡ Ok whole → (whole ≡ whole_part bytes) × LiesIn (whole_part bytes) whole }
 {}
 
 /// What is read of a signature (COSE_Sign1; RFC 9052, section 4.2) stands in all bytes in which its item stands, each at
 /// its place: the protected bytes, the payload, the signature, and the certificate of the unprotected map.
-pub fn signature_lies()
+pub fn signature_stands_in_bytes()
     ensures { (all item : Part) (signature : Signed) → LiesIn all item → sign1 item ≡ Ok signature → SignatureLies all item signature }
 {}
 
 /// The same of a code (COSE_Mac0; section 6.2): the protected bytes, the payload and the tag.
-pub fn code_lies()
+pub fn code_stands_in_bytes()
     ensures { (all item : Part) (code : Authenticated) → LiesIn all item → mac0 item ≡ Ok code → CodeLies all item code }
 {}
 
 /// The same of a key (COSE_Key; section 7): its coordinates.
-pub fn key_lies()
+pub fn key_stands_in_bytes()
     ensures { (all item : Part) (key : Point) → LiesIn all item → key_of item ≡ Ok key → KeyLies all item key }
 {}
 
 /// The same of an issuer-signed item: the map that its tagged string is, and in it the random, the element's identifier
 /// and its value.
-pub fn item_lies()
+pub fn item_stands_in_bytes()
     ensures { (all part : Part) (read : Item) → LiesIn all part → item part.bytes ≡ Ok read → ItemLies all part read }
 {}

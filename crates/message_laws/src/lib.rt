@@ -5,4 +5,7 @@
 
 mod laws;
 
-pub use laws::{code_lies, item_lies, key_lies, signature_lies, whole_lies};
+pub use laws::{
+    code_stands_in_bytes, item_stands_in_bytes, key_stands_in_bytes, signature_stands_in_bytes,
+    whole_stands_in_bytes,
+};

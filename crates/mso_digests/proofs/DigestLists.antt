@@ -1,11 +1,12 @@
 -- The walks over a map of digests and the list of them.
 use Rattle.std.proofs.Common.{◌≡◌, ℕ, ◌==◌, ◌&&◌, if◌then◌else◌, Bool, true, false, List, [], ◌∷◌, ◌++◌, length, Option, Some, None, refl, ◌∙◌}
+use Rattle.std.specs.Option.{option_or}
 use Rattle.std.specs.List.{list_all}
 use Rattle.std.specs.Str.{bytes_eq}
 use Rattle.cbor_view.specs.Label.{entries_or_none}
 use Rattle.cbor_view.specs.Parts.{Part, pairs_in, uint_in, bytes_in, text_in}
 use Rattle.mso_digests.specs.Digests.{Digest, digest_of, digests_under, digests_of, digests_from, have_length, digest_at}
-use Rattle.mso_digests.specs.Nested.{chosen, under_number, first_of, of_namespace, under_namespace, is_length, has_length, of_lengths, has_lengths}
+use Rattle.mso_digests.specs.Nested.{chosen, under_number, of_namespace, under_namespace, is_length, has_length, of_lengths, has_lengths}
 
 -- ---- lengths
 
@@ -42,17 +43,17 @@ all_lengths (e ∷ es) =
 
 -- ---- the digest of an item
 
-first-joined : (namespace : List ℕ) (number : ℕ) (ds es : List Digest) → digest_at namespace number (ds ++ es) ≡ first_of (digest_at namespace number ds) (digest_at namespace number es)
+first-joined : (namespace : List ℕ) (number : ℕ) (ds es : List Digest) → digest_at namespace number (ds ++ es) ≡ option_or (digest_at namespace number ds) (digest_at namespace number es)
 first-joined namespace number [] es = refl
-first-joined namespace number (d ∷ ds) es = rw (first-joined namespace number ds es) (elim (bytes_eq d.namespace namespace && d.number == number) as (λ b. (if b then Some d.digest else first_of (digest_at namespace number ds) (digest_at namespace number es)) ≡ first_of (if b then Some d.digest else digest_at namespace number ds) (digest_at namespace number es)) [
+first-joined namespace number (d ∷ ds) es = rw (first-joined namespace number ds es) (elim (bytes_eq d.namespace namespace && d.number == number) as (λ b. (if b then Some d.digest else option_or (digest_at namespace number ds) (digest_at namespace number es)) ≡ option_or (if b then Some d.digest else digest_at namespace number ds) (digest_at namespace number es)) [
   | true ↦ refl
   | false ↦ refl
 ])
 
-one-digest : (own namespace : List ℕ) (number : ℕ) (n : Option ℕ) (d : Option (List ℕ)) (later : Option (List ℕ)) → bytes_eq own namespace ≡ true → first_of (digest_at namespace number (digest_of own n d)) later ≡ chosen number n d later
+one-digest : (own namespace : List ℕ) (number : ℕ) (n : Option ℕ) (d : Option (List ℕ)) (later : Option (List ℕ)) → bytes_eq own namespace ≡ true → option_or (digest_at namespace number (digest_of own n d)) later ≡ chosen number n d later
 one-digest own namespace number None d later e = refl
 one-digest own namespace number (Some n) None later e = refl
-one-digest own namespace number (Some n) (Some d) later e = rw e (elim (n == number) as (λ b. first_of (if true && b then Some d else None) later ≡ (if b then Some d else later)) [
+one-digest own namespace number (Some n) (Some d) later e = rw e (elim (n == number) as (λ b. option_or (if true && b then Some d else None) later ≡ (if b then Some d else later)) [
   | true ↦ refl
   | false ↦ refl
 ])

@@ -4,9 +4,9 @@ use Rattle.std.specs.Borrow.{Bor}
 use Rattle.std.specs.BTreeMap.{BTreeMap, get, get_by}
 use Rattle.std.specs.Cmp.Lexicographic.{slice_cmp}
 use Rattle.std.specs.Ordering.{nat_cmp}
+use Rattle.mdoc_outside.specs.Borrowed.{content}
 use Rattle.mso_digests.specs.declared.index.DigestIndex.{DigestIndex}
 use Rattle.mso_digests.specs.Digests.{Digest, digest_at}
-use Rattle.mso_digests.specs.MsoView.{content}
 
 -- the digest under a digest identifier
 abbrev pub numbered : BTreeMap ℕ (Bor (List ℕ)) → ℕ → Option (List ℕ)

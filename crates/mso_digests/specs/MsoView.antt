@@ -1,6 +1,6 @@
 -- What contracts see of a security object that was read.
-use Rattle.std.specs.Prelude.{ℕ, List, option_map}
-use Rattle.std.specs.Borrow.{Bor}
+use Rattle.std.specs.Prelude.{option_map}
+use Rattle.mdoc_outside.specs.Borrowed.{content}
 use Rattle.cbor_view.specs.View.{part}
 use Rattle.mso_digests.specs.declared.contents.Contents as read
 use Rattle.mso_digests.specs.declared.validity.Validity as dates
@@ -8,9 +8,6 @@ use Rattle.mso_digests.specs.declared.validity.Moments as times
 use Rattle.mso_digests.specs.declared.mso.Mso.{Mso}
 use Rattle.mso_digests.specs.Digests.{digests_in}
 use Rattle.mso_digests.specs.Object.{Object, Contents, Validity, Moments}
-
-abbrev pub content : Bor (List ℕ) → List ℕ
-content bytes = bytes.now
 
 abbrev pub validity : dates.Validity → Validity
 validity v = record { signed = v.signed.now; from = v.from.now; until = v.until.now; update = option_map content v.update }

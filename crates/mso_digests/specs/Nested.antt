@@ -1,5 +1,6 @@
 -- The digests of a map, namespace by namespace: the words of the walks over it.
 use Rattle.std.specs.Prelude.{ℕ, Bool, true, false, ◌&&◌, nat_lt, ◌==◌, if◌then◌else◌, List, [], ◌∷◌, length, Option, Some, None}
+use Rattle.std.specs.Option.{option_or}
 use Rattle.std.specs.List.{list_all}
 use Rattle.std.specs.Str.{bytes_eq}
 use Rattle.cbor_view.specs.Label.{entries_or_none}
@@ -15,17 +16,13 @@ abbrev pub under_number : ℕ → List (Part × Part) → Option (List ℕ)
 under_number number [] = None
 under_number number (entry ∷ entries) = chosen number (uint_in entry.0) (bytes_in entry.1) (under_number number entries)
 
-abbrev pub first_of : Option (List ℕ) → Option (List ℕ) → Option (List ℕ)
-first_of None later = later
-first_of (Some digest) later = Some digest
-
 abbrev pub of_namespace : List ℕ → ℕ → Option (List ℕ) → Part → Option (List ℕ)
 of_namespace namespace number None value = None
 of_namespace namespace number (Some own) value = if bytes_eq own namespace then under_number number (entries_or_none (pairs_in value)) else None
 
 abbrev pub under_namespace : List ℕ → ℕ → List (Part × Part) → Option (List ℕ)
 under_namespace namespace number [] = None
-under_namespace namespace number (entry ∷ entries) = first_of (of_namespace namespace number (text_in entry.0) entry.1) (under_namespace namespace number entries)
+under_namespace namespace number (entry ∷ entries) = option_or (of_namespace namespace number (text_in entry.0) entry.1) (under_namespace namespace number entries)
 
 -- ---- the lengths
 

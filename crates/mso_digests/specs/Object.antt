@@ -1,16 +1,15 @@
 -- The mobile security object (ISO/IEC 18013-5, 9.1.2.4): what the payload of an issuer's signature says, or the first
 -- check that fails.
-use Rattle.std.specs.Prelude.{ℕ, Bool, ℤ, List, [], ◌∷◌, codes, eqb, Option, Some, None, Result, Ok, Err}
+use Rattle.std.specs.Prelude.{ℕ, Bool, ℤ, List, [], ◌∷◌, codes, eqb, Option, Some, None, Result, Ok}
 use Rattle.std.specs.List.{starts_with}
 use Rattle.std.specs.Str.{bytes_eq}
 use Rattle.mdoc_outside.specs.declared.key_name.KeyName.{KeyName}
 use Rattle.mdoc_outside.specs.declared.key_name.KeyName.TheVariants as keys
 use Rattle.mdoc_outside.specs.ResultSteps.{◌>>=◌, or_fault}
-use Rattle.cbor_view.specs.declared.cbor_fault.CborFault.{CborFault}
 use Rattle.cbor_view.specs.Parts.{Part, cbor, tagged, text_in}
 use Rattle.cbor_maps.specs.declared.map_fault.MapFault.{MapFault}
 use Rattle.cbor_maps.specs.declared.map_fault.MapFault.TheVariants as maps
-use Rattle.cbor_maps.specs.Reading.{distinct, field, optional_field, of_kind, there, any_in, map_in, encoded_in}
+use Rattle.cbor_maps.specs.Reading.{distinct, field, optional_field, of_kind, there, any_in, map_in, map_fault, tagged_string, spelled_item}
 use Rattle.cose_msgs.specs.Steps.{check}
 use Rattle.mdl_table.specs.Calendar.{moment_of}
 use Rattle.mso_digests.specs.declared.mso_fault.MsoFault.{MsoFault}
@@ -143,28 +142,15 @@ object_with c = do
   moments ← moments_of c.validity
   Ok (record { doc_type = c.doc_type; digests = digests_in c.digests; device_key = c.device_key; signed = moments.signed; from = moments.from; until = moments.until })
 
-abbrev pub map_fault : {A : Type 0} → Result A MapFault → Result A MsoFault
-map_fault (Ok value) = Ok value
-map_fault (Err (maps.Doubled name)) = Err (faults.Doubled name)
-map_fault (Err (maps.Field name)) = Err (faults.Field name)
-
 abbrev pub object_of_map : Part → Result Object MsoFault
 object_of_map map = do
-  distinct ← map_fault (distinct_keys map)
-  contents ← map_fault (contents_of map)
+  distinct ← map_fault faults.Doubled faults.Field (distinct_keys map)
+  contents ← map_fault faults.Doubled faults.Field (contents_of map)
   object_with contents
 
 -- the payload is tag 24 over a string of bytes, and the string is CBOR
-abbrev pub tagged_string : Result Part CborFault → Result (List ℕ) MsoFault
-tagged_string (Ok whole) = or_fault faults.Cbor (encoded_in whole)
-tagged_string (Err fault) = Err faults.Cbor
-
-abbrev pub spelled_item : Result Part CborFault → Result Part MsoFault
-spelled_item (Ok map) = Ok map
-spelled_item (Err fault) = Err faults.Cbor
-
 unfoldable pub object : List ℕ → Result Object MsoFault
 object payload = do
-  inside ← tagged_string (cbor payload)
-  map ← spelled_item (cbor inside)
+  inside ← tagged_string faults.Cbor (cbor payload)
+  map ← spelled_item (λ other. faults.Cbor) (cbor inside)
   object_of_map map

@@ -2,11 +2,11 @@
 
 ghost use Rattle.std.specs.Prelude.{◌≡◌, option_map};
 ghost use Rattle.std.specs.List.{list_all};
+ghost use Rattle.mdoc_outside.specs.Borrowed.{content};
 ghost use Rattle.cbor_view.specs.Pairs.{pairs_left};
 ghost use Rattle.cbor_view.specs.Parts.{pairs_in, text_in};
 ghost use Rattle.cbor_view.specs.View.{part};
 ghost use Rattle.mso_digests.specs.Digests.{are_digests, digest_at, digests_in, have_length, is_digest, is_digest_map, is_namespace};
-ghost use Rattle.mso_digests.specs.MsoView.{content};
 ghost use Rattle.mso_digests.specs.Nested.{has_length, has_lengths, of_namespace, under_namespace, under_number};
 
 use cbor_view::{Pairs, View};

@@ -71,7 +71,7 @@ fn count_of(digests: &[Entry], namespace: &[u8]) -> usize
 }
 
 /// Appends the digests of a namespace, each under its digest identifier.
-fn put_digests(out: &mut Build, digests: &[Entry], namespace: &[u8]) -> Result<(), Memory>
+fn append_digests(out: &mut Build, digests: &[Entry], namespace: &[u8]) -> Result<(), Memory>
     ensures { OnOk result (out.new ≡ put_all out.old (map digest_pair (group namespace.now digests.now))) }
 {
     for digest in digests {
@@ -85,7 +85,7 @@ fn put_digests(out: &mut Build, digests: &[Entry], namespace: &[u8]) -> Result<(
 
 /// Appends a namespace with the map of its digests.
 #[tactic(auto, using(crate::proofs::GroupedBytes::map_joined))]
-fn put_namespace(out: &mut Build, digests: &[Entry], namespace: &[u8]) -> Result<(), Memory>
+fn append_namespace(out: &mut Build, digests: &[Entry], namespace: &[u8]) -> Result<(), Memory>
     requires { IsUtf8 namespace.now }
     ensures ok { OnOk result (out.new ≡ (out.old ++ text_bytes namespace.now) ++ group_bytes digests.now namespace.now) }
     ensures short { OnOk result (length namespace.now < 2 ^ 32) }
@@ -98,11 +98,11 @@ fn put_namespace(out: &mut Build, digests: &[Entry], namespace: &[u8]) -> Result
     };
     out.text(text)?;
     out.map(count)?;
-    put_digests(out, digests, namespace)
+    append_digests(out, digests, namespace)
 }
 
 /// Appends each namespace that no earlier digest has with the map of its digests, and answers how many these are.
-fn put_namespaces(out: &mut Build, digests: &[Entry]) -> Result<usize, Memory>
+fn append_namespaces(out: &mut Build, digests: &[Entry]) -> Result<usize, Memory>
     requires { AreTexts digests.now }
     ensures written { OnOk result (out.new ≡ put_all out.old (map (namespace_pair digests.now) (namespaces digests.now))) }
     ensures count { IfOk result (λ n. n ≡ length (namespaces digests.now)) }
@@ -111,7 +111,7 @@ fn put_namespaces(out: &mut Build, digests: &[Entry]) -> Result<usize, Memory>
     for (place, digest) in digests.iter().enumerate() {
         let namespace = digest.0.as_slice();
         if !has_namespace(&digests[..place], namespace) {
-            put_namespace(out, digests, namespace)?;
+            append_namespace(out, digests, namespace)?;
             count += 1;
         }
     }
@@ -130,7 +130,7 @@ pub(crate) fn write_digests(alloc: Global, digests: &[Entry]) -> Result<Octets, 
         return Err(Memory);
     }
     let mut namespaces = Build::new(alloc);
-    let count = put_namespaces(&mut namespaces, digests)?;
+    let count = append_namespaces(&mut namespaces, digests)?;
     let Ok(count) = u32::try_from(count) else {
         return Err(Memory);
     };

@@ -1,14 +1,15 @@
 //! The digests of a security object, by their namespaces and digest identifiers.
 
 ghost use Rattle.std.specs.Prelude.{◌≡◌, if◌then◌else◌, ℕ, List, IfOk, OnOk, None, Some, option_map};
+ghost use Rattle.std.specs.Option.{option_or};
 ghost use Rattle.std.specs.Str.{bytes_eq};
+ghost use Rattle.mdoc_outside.specs.Borrowed.{content};
 ghost use Rattle.cbor_view.specs.Pairs.{pairs_left};
 ghost use Rattle.cbor_view.specs.Parts.{bytes_in, text_in, uint_in};
 ghost use Rattle.cbor_view.specs.View.{part};
 ghost use Rattle.mso_digests.specs.Digests.{digests_in};
 ghost use Rattle.mso_digests.specs.Indexed.{IsIndexOf, indexed, numbered};
-ghost use Rattle.mso_digests.specs.MsoView.{content};
-ghost use Rattle.mso_digests.specs.Nested.{chosen, first_of, of_namespace, under_namespace, under_number};
+ghost use Rattle.mso_digests.specs.Nested.{chosen, of_namespace, under_namespace, under_number};
 
 use cbor_view::{Pairs, View};
 use mdoc_outside::Memory;
@@ -28,7 +29,7 @@ fn put_digest<'a>(
     number: u64,
     digest: &'a [u8],
 ) -> Result<(), Memory>
-    ensures { OnOk result ((id : ℕ) → numbered numbers.new id ≡ first_of (numbered numbers.old id) (chosen id (Some number) (Some digest.now) None)) }
+    ensures { OnOk result ((id : ℕ) → numbered numbers.new id ≡ option_or (numbered numbers.old id) (chosen id (Some number) (Some digest.now) None)) }
 {
     if !numbers.contains_key(&number) {
         numbers.insert(number, digest)?;
@@ -43,7 +44,7 @@ fn put_entry<'a>(
     key: View<'_>,
     value: View<'a>,
 ) -> Result<(), Memory>
-    ensures { OnOk result ((id : ℕ) → numbered numbers.new id ≡ first_of (numbered numbers.old id) (chosen id (uint_in (part key.entry)) (bytes_in (part value.entry)) None)) }
+    ensures { OnOk result ((id : ℕ) → numbered numbers.new id ≡ option_or (numbered numbers.old id) (chosen id (uint_in (part key.entry)) (bytes_in (part value.entry)) None)) }
 {
     match (key.uint(), value.bytes()) {
         (Some(number), Some(digest)) => put_digest(numbers, number, digest),
@@ -54,7 +55,7 @@ fn put_entry<'a>(
 /// Adds the digests of a namespace.
 #[tactic(auto, using(crate::proofs::IndexedDigests::first_alone, crate::proofs::IndexedDigests::first_chosen))]
 fn put_digests<'a>(numbers: &mut BTreeMap<u64, &'a [u8]>, digests: Pairs<'a>) -> Result<(), Memory>
-    ensures { OnOk result ((id : ℕ) → numbered numbers.new id ≡ first_of (numbered numbers.old id) (under_number id (pairs_left digests.entry))) }
+    ensures { OnOk result ((id : ℕ) → numbered numbers.new id ≡ option_or (numbered numbers.old id) (under_number id (pairs_left digests.entry))) }
 {
     for (key, value) in digests {
         put_entry(numbers, key, value)?;
@@ -80,7 +81,7 @@ impl<'a> DigestIndex<'a> {
     /// Adds the digests of namespaces.
     #[tactic(auto, using(crate::proofs::IndexedDigests::first_alone, crate::proofs::IndexedDigests::first_joined))]
     fn put_namespaces(&mut self, alloc: Global, namespaces: Pairs<'a>) -> Result<(), Memory>
-        ensures { OnOk result ((ns : List ℕ) (id : ℕ) → indexed self.new ns id ≡ first_of (indexed self.old ns id) (under_namespace ns id (pairs_left namespaces.entry))) }
+        ensures { OnOk result ((ns : List ℕ) (id : ℕ) → indexed self.new ns id ≡ option_or (indexed self.old ns id) (under_namespace ns id (pairs_left namespaces.entry))) }
     {
         for (name, digests) in namespaces {
             self.put_under(alloc, name, digests)?;
@@ -91,7 +92,7 @@ impl<'a> DigestIndex<'a> {
     /// Adds what is under a key, where it is a namespace with its digests.
     #[tactic(auto, using(crate::proofs::IndexedDigests::first_alone))]
     fn put_under(&mut self, alloc: Global, name: View<'a>, digests: View<'a>) -> Result<(), Memory>
-        ensures { OnOk result ((ns : List ℕ) (id : ℕ) → indexed self.new ns id ≡ first_of (indexed self.old ns id) (of_namespace ns id (text_in (part name.entry)) (part digests.entry))) }
+        ensures { OnOk result ((ns : List ℕ) (id : ℕ) → indexed self.new ns id ≡ option_or (indexed self.old ns id) (of_namespace ns id (text_in (part name.entry)) (part digests.entry))) }
     {
         match (name.text(), digests.pairs()) {
             (Some(name), Some(digests)) => self.put_namespace(alloc, name, digests),
@@ -106,7 +107,7 @@ impl<'a> DigestIndex<'a> {
         name: &'a str,
         digests: Pairs<'a>,
     ) -> Result<(), Memory>
-        ensures { OnOk result ((ns : List ℕ) (id : ℕ) → indexed self.new ns id ≡ first_of (indexed self.old ns id) (if bytes_eq name.now ns then under_number id (pairs_left digests.entry) else None)) }
+        ensures { OnOk result ((ns : List ℕ) (id : ℕ) → indexed self.new ns id ≡ option_or (indexed self.old ns id) (if bytes_eq name.now ns then under_number id (pairs_left digests.entry) else None)) }
     {
         let mut numbers = self.take(alloc, name);
         put_digests(&mut numbers, digests)?;

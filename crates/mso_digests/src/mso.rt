@@ -1,11 +1,12 @@
 //! The security object.
 
 ghost use Rattle.std.specs.Prelude.{◌≡◌, IfOk, option_map};
+ghost use Rattle.mdoc_outside.specs.Borrowed.{content};
 ghost use Rattle.cbor_view.specs.Reading.{Gives};
 ghost use Rattle.cbor_view.specs.View.{part};
 ghost use Rattle.mso_digests.specs.Digests.{digest_at};
 ghost use Rattle.mso_digests.specs.Indexed.{IsIndexOf};
-ghost use Rattle.mso_digests.specs.MsoView.{content, contents, object_seen};
+ghost use Rattle.mso_digests.specs.MsoView.{contents, object_seen};
 ghost use Rattle.mso_digests.specs.Object.{is_sha256, is_version, object, object_of_map, object_with};
 
 use crate::MsoFault;

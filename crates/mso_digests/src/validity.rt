@@ -1,10 +1,11 @@
 //! The validity of a security object.
 
 ghost use Rattle.std.specs.Prelude.{◌≡◌, option_map};
+ghost use Rattle.mdoc_outside.specs.Borrowed.{content};
 ghost use Rattle.cbor_view.specs.Reading.{Gives};
 ghost use Rattle.cbor_view.specs.View.{part};
 ghost use Rattle.cbor_maps.specs.NamedMap.{whole_map};
-ghost use Rattle.mso_digests.specs.MsoView.{content, moments, validity};
+ghost use Rattle.mso_digests.specs.MsoView.{moments, validity};
 ghost use Rattle.mso_digests.specs.Object.{date_text, date_under, moment_under, moments_of, optional_date, update_of, validity_of};
 
 use crate::MsoFault;

@@ -41,7 +41,7 @@ fn write_date(alloc: Global, moment: i64) -> Result<Octets, Memory>
 }
 
 /// The fields that the map validityInfo has always, of so many in all.
-fn put_dates(
+fn append_dates(
     alloc: Global,
     count: u32,
     signed: &[u8],
@@ -76,7 +76,7 @@ fn write_validity(
     let until_date = write_date(alloc, until)?;
     match update {
         None => {
-            let map = put_dates(
+            let map = append_dates(
                 alloc,
                 3,
                 signed_date.as_slice(),
@@ -86,7 +86,7 @@ fn write_validity(
             Ok(map.finish())
         }
         Some(update) => {
-            let map = put_dates(
+            let map = append_dates(
                 alloc,
                 4,
                 signed_date.as_slice(),

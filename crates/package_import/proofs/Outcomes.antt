@@ -4,10 +4,10 @@ use Rattle.std.specs.Prelude.{nat_le}
 use Rattle.std.proofs.lemmas.Bool.Decides.{nat_tests}
 use Rattle.doc_store.specs.Store.{Store}
 use Rattle.key_device.proofs.PlanLemmas.{halted}
-use Rattle.key_device.proofs.PlanStepLemmas.{turned_came}
+use Rattle.key_device.proofs.PlanStepLemmas.{mapped_came}
 use Rattle.key_device.specs.Gave.{Counts}
 use Rattle.key_device.specs.Plan.{Plan, Follows}
-use Rattle.key_device.specs.PlanSteps.{turned}
+use Rattle.key_device.specs.PlanSteps.{mapped}
 use Rattle.key_device.specs.declared.device_fault.DeviceFault.{DeviceFault}
 use Rattle.key_device.specs.declared.exchange.Exchange.{Exchange}
 use Rattle.mdoc_outside.specs.declared.limit_name.LimitName.TheVariants.{FileBytes, PackageBytes, Documents, Namespaces, Items, Copies, Value, Name, Roots, Requests, Wishes, ScheduleLines, Fragments}
@@ -15,8 +15,8 @@ use Rattle.package_import.specs.Import.{Comes, MergesInto, are_accepted, by_verd
 use Rattle.package_import.specs.declared.import_fault.ImportFault.{ImportFault}
 use Rattle.package_import.specs.declared.import_fault.ImportFault.TheVariants as faults
 use Rattle.package_import.specs.declared.imported.Imported.{Imported}
-use Rattle.package_model.specs.declared.package_verdict.PackageVerdict.{PackageVerdict}
-use Rattle.store_merge.specs.Merged.{merged}
+use Rattle.verdict_model.specs.declared.package_verdict.PackageVerdict.{PackageVerdict}
+use Rattle.store_write.specs.Merged.{merged}
 use Rattle.store_write.specs.Written.{store_bytes}
 
 at_most : (n most : ℕ) → n ≤ most → nat_le n most ≡ true
@@ -72,14 +72,14 @@ accepted_failed own received verdicts fault all m =
 
 -- it comes to an outcome, or memory is wanting
 pub outcome_of : {p : Plan (Result (List PackageVerdict) DeviceFault)} (own received : Store) (verdicts : List PackageVerdict) (result : Result Imported ImportFault) {old new : List Exchange}
-    → Follows p old new (Some (Ok verdicts)) → Comes (imported_of own received verdicts) result → Follows (turned (by_verdicts own received) p) old new (came_to result)
+    → Follows p old new (Some (Ok verdicts)) → Comes (imported_of own received verdicts) result → Follows (mapped (by_verdicts own received) p) old new (came_to result)
 outcome_of {p} own received verdicts (Ok it) {old} {new} first is =
-    subst (λ (outcome : Result Imported ImportFault). Follows (turned (by_verdicts own received) p) old new (Some outcome)) is (turned_came (by_verdicts own received) first)
+    subst (λ (outcome : Result Imported ImportFault). Follows (mapped (by_verdicts own received) p) old new (Some outcome)) is (mapped_came (by_verdicts own received) first)
 outcome_of {p} own received verdicts (Err faults.Device) {old} {new} first is =
-    subst (λ (outcome : Result Imported ImportFault). Follows (turned (by_verdicts own received) p) old new (Some outcome)) is (turned_came (by_verdicts own received) first)
+    subst (λ (outcome : Result Imported ImportFault). Follows (mapped (by_verdicts own received) p) old new (Some outcome)) is (mapped_came (by_verdicts own received) first)
 outcome_of {p} own received verdicts (Err (faults.Limit limit number)) {old} {new} first is =
-    subst (λ (outcome : Result Imported ImportFault). Follows (turned (by_verdicts own received) p) old new (Some outcome)) is (turned_came (by_verdicts own received) first)
-outcome_of own received verdicts (Err faults.Memory) first is = halted (turned_came (by_verdicts own received) first)
+    subst (λ (outcome : Result Imported ImportFault). Follows (mapped (by_verdicts own received) p) old new (Some outcome)) is (mapped_came (by_verdicts own received) first)
+outcome_of own received verdicts (Err faults.Memory) first is = halted (mapped_came (by_verdicts own received) first)
 
 -- by verdicts there is no fault of the device
 short-calm : (short : Bool) (bytes : List ℕ) (verdicts : List PackageVerdict) → is_device (if_short short bytes verdicts) ≡ false

@@ -5,12 +5,12 @@ use Rattle.std.specs.List.{list_all}
 use Rattle.cert_view.specs.declared.root.Root.{Root}
 use Rattle.doc_store.specs.Store.{Store}
 use Rattle.key_device.specs.Plan.{Plan}
-use Rattle.key_device.specs.PlanSteps.{turned}
+use Rattle.key_device.specs.PlanSteps.{mapped}
 use Rattle.key_device.specs.declared.device_fault.DeviceFault.{DeviceFault}
 use Rattle.mdoc_outside.specs.declared.limit_name.LimitName.TheVariants.{Documents, FileBytes}
-use Rattle.package_model.specs.Checked.{checked}
-use Rattle.package_model.specs.declared.package_verdict.PackageVerdict.{PackageVerdict}
-use Rattle.store_merge.specs.Merged.{merged}
+use Rattle.verdict_model.specs.Checked.{checked}
+use Rattle.verdict_model.specs.declared.package_verdict.PackageVerdict.{PackageVerdict}
+use Rattle.store_write.specs.Merged.{merged}
 use Rattle.store_write.specs.Written.{store_bytes}
 use Rattle.package_import.specs.declared.import_fault.ImportFault.{ImportFault}
 use Rattle.package_import.specs.declared.import_fault.ImportFault.TheVariants as faults
@@ -46,7 +46,7 @@ by_verdicts own received (Err fault) = Err faults.Device
 
 -- What an import asks, and what it comes to.
 unfoldable pub import_checks : List Root → ℤ → Store → Store → Plan (Result Imported ImportFault)
-import_checks roots moment own received = turned (by_verdicts own received) (checked roots moment received)
+import_checks roots moment own received = mapped (by_verdicts own received) (checked roots moment received)
 
 -- ---- what a call answers
 

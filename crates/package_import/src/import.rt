@@ -5,7 +5,7 @@ ghost use Rattle.doc_store.specs.StoreView.{documents_in};
 ghost use Rattle.key_device.specs.Gave.{Counts, Gave};
 ghost use Rattle.key_device.specs.Plan.{Follows};
 ghost use Rattle.key_device.specs.Recording.{inner, talk};
-ghost use Rattle.store_merge.specs.Merged.{merged};
+ghost use Rattle.store_write.specs.Merged.{merged};
 ghost use Rattle.package_import.specs.Import.{Comes, MergesInto, are_accepted, came_to, import_checks, imported_of, is_accepted, is_device};
 
 use crate::{ImportFault, Imported};
@@ -13,10 +13,10 @@ use cert_view::Roots;
 use doc_store::Store;
 use key_device::{DeviceFault, KeyDevice, Recorder};
 use mdoc_outside::{LimitName, Octets, Rows};
-use package_check::check_package;
-use package_model::PackageVerdict;
+use reader_checks::check_package;
 use std::alloc::Global;
-use store_merge::{MergeFault, merge_stores};
+use store_write::{MergeFault, merge_stores};
+use verdict_model::PackageVerdict;
 
 /// Whether a document is accepted: no check of it, and of none of its items, fails.
 pub fn is_accepted(verdict: &PackageVerdict) -> bool
@@ -79,7 +79,7 @@ fn imported_of(
 /// moment in seconds since 1970. Where a document is refused nothing is merged. It is
 /// refused where the reader's device fails, exactly where the merged store would pass 16 documents or 16,777,216 bytes,
 /// and for want of memory.
-#[tactic(auto, using(crate::proofs::Outcomes::outcome_of, key_device::proofs::PlanStepLemmas::turned_exits), unfolding(crate::specs::Import::import_checks))]
+#[tactic(auto, using(crate::proofs::Outcomes::outcome_of, key_device::proofs::PlanStepLemmas::mapped_exits), unfolding(crate::specs::Import::import_checks))]
 pub fn import_package<E: KeyDevice>(
     alloc: Global,
     own: &Store<'_>,

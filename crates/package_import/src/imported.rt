@@ -1,7 +1,7 @@
 //! What an import comes to.
 
 use mdoc_outside::{Octets, Rows};
-use package_model::PackageVerdict;
+use verdict_model::PackageVerdict;
 
 /// What an import comes to.
 #[derive(Drop)]

@@ -12,15 +12,15 @@ use Rattle.cbor_view.specs.Shortest.{bytes_bytes}
 use Rattle.cbor_view.specs.Tree.{Bytes}
 use Rattle.cose_msgs.specs.Written.{chain_map, es256, sign1_bytes}
 use Rattle.doc_response.proofs.Grouping.{firsts-all, map-all, map-length, of-all}
-use Rattle.doc_response.specs.Answered.{firsts, grouped, of_namespace}
+use Rattle.doc_response.specs.Answered.{distinct_texts, grouped, of_namespace}
 use Rattle.doc_response.specs.WrittenReads.{regrouped}
 use Rattle.doc_store.specs.Fields as fields
 use Rattle.doc_store.specs.Store.{Copy}
-use Rattle.issued_items.specs.IssuedItems.{raw_items}
-use Rattle.issued_items.specs.declared.issued_item.IssuedItem.{IssuedItem}
-use Rattle.issuing.specs.SpecFacts as spec
-use Rattle.issuing.specs.declared.spec_element.SpecElement.{SpecElement}
-use Rattle.store_laws.specs.Storable.{IsCopy, IsName, IsNamespace}
+use Rattle.issuing.specs.IssuedItems.{raw_items}
+use Rattle.issuing.specs.declared.issued_item.IssuedItem.{IssuedItem}
+use Rattle.issue_spec.specs.SpecFacts as spec
+use Rattle.issue_spec.specs.declared.spec_element.SpecElement.{SpecElement}
+use Rattle.store_write.specs.Storable.{IsCopy, IsName, IsNamespace}
 use Rattle.package_laws.proofs.ItemsOfSpec.{AreItemsOf, pair_ns, raw_items-length, raw_items-names, raw_items-namespaces, raw_items-nested}
 use Rattle.package_laws.proofs.SpecValueItems.{item-of}
 use Rattle.package_laws.proofs.Namespaces.{distinct-names, named-in, namespaces-are-firsts, regrouped-fewer}
@@ -78,8 +78,8 @@ namespace-of es items all distinct ns is =
 namespaces-of : (es : List SpecElement) (items : List IssuedItem) → AreItemsOf es items → spec.are_distinct es ≡ true → AllByRecursion IsNamespace (grouped (raw_items items))
 namespaces-of es items all distinct =
     let names = map pair_ns (raw_items items) in
-    map-all IsNamespace (of_namespace (raw_items items)) (firsts names)
-    (weaker IsName (λ (ns : List ℕ). IsNamespace (of_namespace (raw_items items) ns)) (namespace-of es items all distinct) (firsts names)
+    map-all IsNamespace (of_namespace (raw_items items)) (distinct_texts names)
+    (weaker IsName (λ (ns : List ℕ). IsNamespace (of_namespace (raw_items items) ns)) (namespace-of es items all distinct) (distinct_texts names)
     (firsts-all IsName names (raw_items-names es items all)))
 
 -- ---- a copy
@@ -90,8 +90,8 @@ copy-stored c items es is all same key auth four =
     let few : length (raw_items items) ≤ 512 = let most = is.few in omega (arith, most, raw_items-length es items all) in
     let groups : length (grouped (raw_items items)) ≤ 16 =
     let most = is.namespaces in
-    let one = map-length (of_namespace (raw_items items)) (firsts (map pair_ns (raw_items items))) in
-    let two = ap (λ (x : List (List ℕ)). length (firsts x)) (raw_items-namespaces es items all) in
+    let one = map-length (of_namespace (raw_items items)) (distinct_texts (map pair_ns (raw_items items))) in
+    let two = ap (λ (x : List (List ℕ)). length (distinct_texts x)) (raw_items-namespaces es items all) in
     let three = ap (λ (x : List (List ℕ)). length x) (namespaces-are-firsts es) in
     omega (arith, most, one, two, three) in
     record {

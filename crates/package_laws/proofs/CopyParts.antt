@@ -1,11 +1,13 @@
 -- What a copy is that the plan of issuing comes to: made of a device key, of a salt for each element, and of a signature.
 use Rattle.std.proofs.Common.{◌≡◌, ◌<◌, ◌^◌, ℕ, List, [], ◌∷◌, ◌++◌, length, Result, Ok, sym, ap, subst, ◌∙◌}
 use Rattle.std.specs.List.{AllByRecursion}
-use Rattle.document_signer.specs.declared.signer.Signer.{Signer}
-use Rattle.issue_questions.specs.Questions.{by_fresh, by_sign, fresh, salt, salt_of, salts, signed}
-use Rattle.issue_questions.specs.declared.issue_fault.IssueFault.{IssueFault}
-use Rattle.issued_copies.specs.Copies.{copies, copy, issued_copy, message, signed_copy, with_key, with_salts, with_signature}
-use Rattle.issuing.specs.declared.spec_fields.SpecFields.{SpecFields}
+use Rattle.issuing.specs.declared.signer.Signer.{Signer}
+use Rattle.key_device.specs.Questions.{by_fresh, by_sign, fresh, signed}
+use Rattle.issuing.specs.Questions.{salt, salt_of, salts}
+use Rattle.issuing.specs.declared.issue_fault.IssueFault.{IssueFault}
+use Rattle.issuing.specs.declared.issue_fault.IssueFault.TheVariants.{Device}
+use Rattle.issuing.specs.Copies.{copies, copy, issued_copy, message, signed_copy, with_key, with_salts, with_signature}
+use Rattle.issue_spec.specs.declared.spec_fields.SpecFields.{SpecFields}
 use Rattle.key_device.specs.HasLine.{IsPoint, IsTold}
 use Rattle.key_device.specs.Plan.{Walks}
 use Rattle.key_device.specs.declared.exchange.Exchange.{Exchange}
@@ -20,7 +22,7 @@ use Rattle.package_laws.proofs.PlanParts.{AllCame, AreLines, bound, done-walk, l
 abbrev made-key : Made → Result Made IssueFault
 made-key made = Ok made
 
-told-key : (told : Told) (made : Made) → IsTold told → made-key made ≡ by_fresh told → IsTold (tells.Made made)
+told-key : (told : Told) (made : Made) → IsTold told → made-key made ≡ by_fresh Device told → IsTold (tells.Made made)
 told-key (tells.Made own) made is same = subst (λ (m : Made). IsTold (tells.Made m)) (sym (same-value made own same)) is
 told-key (tells.Secret secret) made is same = absurd cc
 told-key tells.Refused made is same = absurd cc
@@ -29,16 +31,16 @@ told-key tells.Yes made is same = absurd cc
 told-key tells.No made is same = absurd cc
 told-key tells.Failed made is same = absurd cc
 
-key-told : (es os : List Exchange) (ws : List ℕ) (made : Made) → AreLines es → Walks fresh es os ws (Ok made) → IsTold (tells.Made made)
+key-told : (es os : List Exchange) (ws : List ℕ) (made : Made) → AreLines es → Walks (fresh Device) es os ws (Ok made) → IsTold (tells.Made made)
 key-told [] os ws made lines walk = absurd walk
 key-told (e ∷ es) os ws made lines walk =
     let line = lines.0 in
-    told-key e.told made line.told (done-walk (by_fresh e.told) (Ok made) es os ws walk.1)
+    told-key e.told made line.told (done-walk (by_fresh Device e.told) (Ok made) es os ws walk.1)
 
 abbrev own-signature : List ℕ → Result (List ℕ) IssueFault
 own-signature signature = Ok signature
 
-told-signature : (told : Told) (signature : List ℕ) → IsTold told → own-signature signature ≡ by_sign told → length signature ≡ 64
+told-signature : (told : Told) (signature : List ℕ) → IsTold told → own-signature signature ≡ by_sign Device told → length signature ≡ 64
 told-signature (tells.Made made) signature is same = absurd cc
 told-signature (tells.Secret secret) signature is same = absurd cc
 told-signature tells.Refused signature is same = absurd cc
@@ -47,11 +49,11 @@ told-signature tells.Yes signature is same = absurd cc
 told-signature tells.No signature is same = absurd cc
 told-signature tells.Failed signature is same = absurd cc
 
-signature-told : (key : ℕ) (text : List ℕ) (es os : List Exchange) (ws : List ℕ) (signature : List ℕ) → AreLines es → Walks (signed key text) es os ws (Ok signature) → length signature ≡ 64
+signature-told : (key : ℕ) (text : List ℕ) (es os : List Exchange) (ws : List ℕ) (signature : List ℕ) → AreLines es → Walks (signed Device key text) es os ws (Ok signature) → length signature ≡ 64
 signature-told key text [] os ws signature lines walk = absurd walk
 signature-told key text (e ∷ es) os ws signature lines walk =
     let line = lines.0 in
-    told-signature e.told signature line.told (done-walk (by_sign e.told) (Ok signature) es os ws walk.1)
+    told-signature e.told signature line.told (done-walk (by_sign Device e.told) (Ok signature) es os ws walk.1)
 
 -- ---- salts
 
@@ -83,7 +85,7 @@ copy-made : (fields : SpecFields) (signer : Signer) (es os : List Exchange) (ws 
     → AreLines es → AreLines os → Walks (copy fields signer) es os ws (Ok bytes) → IsMade fields signer bytes
 unfolding copy salts
 copy-made fields signer es os ws bytes own others walk =
-    let one = bound fresh (with_key fields signer) es os ws bytes walk in
+    let one = bound (fresh Device) (with_key fields signer) es os ws bytes walk in
     let made = one.value in
     let own_lines = subst AreLines one.es_is own in
     let other_lines = subst AreLines one.os_is others in
@@ -93,8 +95,8 @@ copy-made fields signer es os ws bytes own others walk =
     let other_after = subst AreLines two.os_is (lines-after one.o one.o' other_lines) in
     let sizes = times-came salt (λ (s : List ℕ). length s ≡ 32) salt-size (length fields.elements) two.e two.o two.w drawn (lines-front two.e two.e' own_after) (lines-front two.o two.o' other_after) two.first in
     let other_rest = lines-after two.o two.o' other_after in
-    let turned = swapped (signed_copy fields signer made drawn) two.e' two.o' two.w' (Ok bytes) two.second in
-    let three = bound (signed signer.key (message fields made.public drawn)) (with_signature fields signer made drawn) two.o' two.e' two.w' bytes turned in
+    let mapped = swapped (signed_copy fields signer made drawn) two.e' two.o' two.w' (Ok bytes) two.second in
+    let three = bound (signed Device signer.key (message fields made.public drawn)) (with_signature fields signer made drawn) two.o' two.e' two.w' bytes mapped in
     let signature = three.value in
     let three_lines : AreLines (three.e ++ three.e') = subst AreLines {y = three.e ++ three.e'} three.es_is other_rest in
     record {

@@ -10,18 +10,18 @@ use Rattle.cbor_maps.specs.WrittenReads.{SpellsItem}
 use Rattle.cbor_maps.proofs.WrittenMaps.{piece-encoded}
 use Rattle.cbor_view.specs.Shortest.{shortest_form, shortest_head}
 use Rattle.cbor_view.specs.Spelling.{Form, Within, One, Two, Four, Eight, head}
-use Rattle.issued_items.proofs.ElementLemmas.{Checked, checked, name_short, name_text, ns_text}
-use Rattle.issued_items.specs.IssuedItems.{entries_of, item_of, items_after, number_in, raw_items}
-use Rattle.issued_items.specs.declared.issued_item.IssuedItem.{IssuedItem}
+use Rattle.issuing.proofs.ElementLemmas.{Checked, checked, name_short, name_text, ns_text}
+use Rattle.issuing.specs.IssuedItems.{entries_of, item_of, items_after, count_in_namespace, raw_items}
+use Rattle.issuing.specs.declared.issued_item.IssuedItem.{IssuedItem}
 use Rattle.issuer_items.proofs.ItemWritten.{item-written}
 use Rattle.issuer_items.specs.Item.{Item, item}
 use Rattle.issuer_items.specs.WrittenItem.{IsWritable, item_bytes, item_map}
-use Rattle.issuing.specs.SpecFacts.{AreElements, is_element}
-use Rattle.issuing.specs.declared.spec_element.SpecElement.{SpecElement}
+use Rattle.issue_spec.specs.SpecFacts.{AreElements, is_element}
+use Rattle.issue_spec.specs.declared.spec_element.SpecElement.{SpecElement}
 use Rattle.mso_digests.specs.MadeFrom.{AreDigestsOf}
 use Rattle.mso_digests.specs.WrittenFacts.{AllHaveSpelling}
 use Rattle.sha2.proofs.Facts256.{length-sha256}
-use Rattle.store_laws.specs.Storable.{IsName}
+use Rattle.store_write.specs.Storable.{IsName}
 use Rattle.package_laws.proofs.SpecLineItems.{HaveItems}
 use Rattle.package_laws.proofs.SpecValueItems.{IsItem, item-of}
 
@@ -42,7 +42,7 @@ unfolding item_map key_bytes map_head
 item-length it =
     simp length-append (omega (arith, head-short 5 4, head-short 0 it.digest_id, head-short 2 (length it.random), head-short 3 (length it.name)))
 
-number-few : (ns : List ℕ) (xs : List SpecElement) → number_in ns xs ≤ length xs
+number-few : (ns : List ℕ) (xs : List SpecElement) → count_in_namespace ns xs ≤ length xs
 number-few ns [] = omega arith
 number-few ns (x ∷ xs) = let rest = number-few ns xs in elim (bytes_eq x.ns ns) as (λ b. length (if b then x ∷ filter (λ (e : SpecElement). bytes_eq e.ns ns) xs else filter (λ (e : SpecElement). bytes_eq e.ns ns) xs) ≤ suc (length xs)) [
   | true ↦ omega (arith, rest)

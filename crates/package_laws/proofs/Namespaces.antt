@@ -8,20 +8,20 @@ use Rattle.std.proofs.lemmas.List.{length-append}
 use Rattle.std.proofs.lemmas.Slice.Eq.{bytes_eq-Decides}
 use Rattle.doc_response.proofs.FirstsLemmas.{more, more-added, more-start}
 use Rattle.doc_response.proofs.Grouping.{map-length}
-use Rattle.doc_response.specs.Answered.{firsts, has_text, of_namespace}
+use Rattle.doc_response.specs.Answered.{distinct_texts, has_text, of_namespace}
 use Rattle.doc_response.specs.Namespaces.{added}
 use Rattle.doc_response.specs.WrittenReads.{regrouped, spread_group}
 use Rattle.doc_store.specs.Fields as fields
 use Rattle.doc_store.specs.Item.{if_item, item}
-use Rattle.issued_items.specs.IssuedItems.{raw_items, placed_of}
-use Rattle.issued_items.specs.declared.issued_item.IssuedItem.{IssuedItem}
-use Rattle.issuing.specs.SpecFacts.{are_distinct}
-use Rattle.issuing.specs.SpecNamespaces.{namespaces_after, namespaces_of, with_namespace}
-use Rattle.issuing.specs.SpecSoFar.{has_element, is_same_element}
-use Rattle.issuing.specs.declared.spec_element.SpecElement.{SpecElement}
+use Rattle.issuing.specs.IssuedItems.{raw_items, placed_of}
+use Rattle.issuing.specs.declared.issued_item.IssuedItem.{IssuedItem}
+use Rattle.issue_spec.specs.SpecFacts.{are_distinct}
+use Rattle.issue_spec.specs.SpecNamespaces.{namespaces_after, namespaces_of, with_namespace}
+use Rattle.issue_spec.specs.SpecSoFar.{has_element, is_same_element}
+use Rattle.issue_spec.specs.declared.spec_element.SpecElement.{SpecElement}
 use Rattle.mdoc_outside.specs.OptionSteps.{each as each_of}
-use Rattle.store_laws.proofs.WrittenRead.{firsts-distinct}
-use Rattle.store_laws.specs.Storable.{named}
+use Rattle.store_write.proofs.WrittenRead.{firsts-distinct}
+use Rattle.store_write.specs.Storable.{named}
 use Rattle.package_laws.proofs.ItemsOfSpec.{AreItemsOf, IsItemOf, ns_of}
 
 abbrev Pair : Type 0
@@ -35,8 +35,8 @@ same-text a b e = (bytes_eq-Decides a b).0 e
 own-text : (a b : List ℕ) → a ≡ b → bytes_eq a b ≡ true
 own-text a b e = (bytes_eq-Decides a b).1 e
 
-turned : (a b : List ℕ) → bytes_eq a b ≡ bytes_eq b a
-turned a b = go (bytes_eq a b) (bytes_eq b a) refl refl where
+mapped : (a b : List ℕ) → bytes_eq a b ≡ bytes_eq b a
+mapped a b = go (bytes_eq a b) (bytes_eq b a) refl refl where
   go : (p q : Bool) → bytes_eq a b ≡ p → bytes_eq b a ≡ q → p ≡ q
   go true true one other = refl
   go true false one other = sym (own-text b a (sym (same-text a b one))) ∙ other
@@ -51,7 +51,7 @@ neither false b h = (refl, h)
 
 any-turned : (ns : List ℕ) (seen : List (List ℕ)) → list_any (bytes_eq ns) seen ≡ has_text ns seen
 any-turned ns [] = refl
-any-turned ns (other ∷ seen) = rw (turned ns other, any-turned ns seen) refl
+any-turned ns (other ∷ seen) = rw (mapped ns other, any-turned ns seen) refl
 
 with-added : (seen : List (List ℕ)) (ns : List ℕ) → with_namespace seen ns ≡ added ns seen
 with-added seen ns = ap (λ (b : Bool). cond b seen (seen ++ ns ∷ [])) (any-turned ns seen)
@@ -63,7 +63,7 @@ namespaces-more seen (e ∷ es) =
     ∙ ap (λ (x : List (List ℕ)). more x (map ns_of es)) (with-added seen e.ns)
     ∙ more-added seen (map ns_of es) e.ns
 
-pub namespaces-are-firsts : (es : List SpecElement) → namespaces_of es ≡ firsts (map ns_of es)
+pub namespaces-are-firsts : (es : List SpecElement) → namespaces_of es ≡ distinct_texts (map ns_of es)
 namespaces-are-firsts es = namespaces-more [] es ∙ more-start (map ns_of es)
 
 -- ---- as many items as there were
@@ -120,7 +120,7 @@ all-counted (p ∷ pairs) ts e = omega (arith, one-more p pairs ts e, all-counte
 pub regrouped-fewer : (pairs : List Pair) → length (regrouped pairs) ≤ length pairs
 regrouped-fewer pairs =
     let names = map (λ (pair : Pair). pair.0) pairs in
-    omega (arith, spread-counted pairs (firsts names), all-counted pairs (firsts names) (firsts-distinct names))
+    omega (arith, spread-counted pairs (distinct_texts names), all-counted pairs (distinct_texts names) (firsts-distinct names))
 
 -- ---- the names of a namespace's items
 

@@ -3,13 +3,13 @@ use Rattle.std.proofs.Common.{◌≡◌, ◌<◌, ◌^◌, ℕ, List, [], length
 use Rattle.cose_msgs.proofs.WrittenMessages.{sign1-read}
 use Rattle.cose_msgs.specs.Message.{sign1}
 use Rattle.cose_msgs.specs.Written.{IsReadAs, es256, sign1_bytes}
-use Rattle.issued_items.proofs.ElementLemmas.{name_short}
-use Rattle.issued_items.proofs.ItemLemmas.{once_after}
-use Rattle.issued_items.proofs.ObjectLemmas.{update_is}
-use Rattle.issued_items.specs.IssuedItems.{entries_of, items_of, object_draft, payload, raw_items}
-use Rattle.issuing.proofs.SpecForms.{name_is_text}
-use Rattle.issuing.specs.SpecFacts.{IsSpec}
-use Rattle.issuing.specs.declared.spec_fields.SpecFields.{SpecFields}
+use Rattle.issuing.proofs.ElementLemmas.{name_short}
+use Rattle.issuing.proofs.ItemLemmas.{once_after}
+use Rattle.issuing.proofs.ObjectLemmas.{update_is}
+use Rattle.issuing.specs.IssuedItems.{entries_of, items_of, object_draft, payload, raw_items}
+use Rattle.issue_spec.proofs.SpecForms.{name_is_text}
+use Rattle.issue_spec.specs.SpecFacts.{IsSpec}
+use Rattle.issue_spec.specs.declared.spec_fields.SpecFields.{SpecFields}
 use Rattle.key_device.specs.HasLine.{IsPoint}
 use Rattle.key_device.specs.declared.point.Point.{Point}
 use Rattle.mso_digests.proofs.MadeFromItems.{covers-items, lists-items}

@@ -5,28 +5,28 @@ use Rattle.std.specs.List.{All, AllByRecursion}
 use Rattle.std.proofs.lemmas.Bool.{leb-true}
 use Rattle.std.proofs.lemmas.Bool.Decides.{nat_tests}
 use Rattle.std.proofs.lemmas.List.Elements.{All-from_recursion, recursion_from_All}
-use Rattle.document_signer.specs.Signers.{signer_of}
-use Rattle.document_signer.specs.declared.signer.Signer.{Signer}
+use Rattle.issuing.specs.Signers.{signer_of}
+use Rattle.issuing.specs.declared.signer.Signer.{Signer}
 use Rattle.doc_store.specs.Store.{Copy, store}
-use Rattle.issue_questions.specs.declared.issue_fault.IssueFault.{IssueFault}
-use Rattle.issue_questions.specs.declared.issue_fault.IssueFault.TheVariants.{Limit}
-use Rattle.issued_copies.specs.Copies.{copies, issued_copy}
-use Rattle.issued_items.proofs.ElementLemmas.{name_short}
-use Rattle.issued_items.specs.IssuedItems.{items_of, object_draft, payload}
-use Rattle.issuing.proofs.SpecForms.{name_is_text}
-use Rattle.issuing.specs.SpecFacts.{IsSpec}
-use Rattle.issuing.specs.SpecFile.{spec_of}
-use Rattle.issuing.specs.declared.spec_element.SpecElement.{SpecElement}
-use Rattle.issuing.specs.declared.spec_fields.SpecFields.{SpecFields}
+use Rattle.issuing.specs.declared.issue_fault.IssueFault.{IssueFault}
+use Rattle.issuing.specs.declared.issue_fault.IssueFault.TheVariants.{Limit}
+use Rattle.issuing.specs.Copies.{copies, issued_copy}
+use Rattle.issuing.proofs.ElementLemmas.{name_short}
+use Rattle.issuing.specs.IssuedItems.{items_of, object_draft, payload}
+use Rattle.issue_spec.proofs.SpecForms.{name_is_text}
+use Rattle.issue_spec.specs.SpecFacts.{IsSpec}
+use Rattle.issue_spec.specs.SpecFile.{spec_of}
+use Rattle.issue_spec.specs.declared.spec_element.SpecElement.{SpecElement}
+use Rattle.issue_spec.specs.declared.spec_fields.SpecFields.{SpecFields}
 use Rattle.key_device.specs.HasLine.{HasLine}
 use Rattle.key_device.specs.Plan.{Walks, of_other}
 use Rattle.key_device.specs.declared.exchange.Exchange.{Exchange}
 use Rattle.mdoc_outside.specs.declared.limit_name.LimitName.TheVariants.{PackageBytes}
 use Rattle.mso_digests.specs.Written.{drafted}
-use Rattle.package_issue.specs.Package.{issued_package, package_bytes, with_copies, with_signer, within_limit}
-use Rattle.package_issue.specs.declared.issued.Issued.{Issued}
-use Rattle.store_laws.proofs.WrittenRead.{written-read}
-use Rattle.store_laws.specs.Storable.{IsCopy, IsDocument, IsStore, copy_by_namespace}
+use Rattle.issuing.specs.Package.{issued_package, package_bytes, with_copies, with_signer, within_limit}
+use Rattle.issuing.specs.declared.issued.Issued.{Issued}
+use Rattle.store_write.proofs.WrittenRead.{written-read}
+use Rattle.store_write.specs.Storable.{IsCopy, IsDocument, IsStore, copy_by_namespace}
 use Rattle.store_write.specs.Written.{copy_bytes, store_bytes}
 use Rattle.package_laws.specs.IssuedCopies.{AreIssuedSigned, ArePlannedSigned, IsSigned}
 use Rattle.package_laws.specs.IssuedStores.{IsCopyOf, IsIssuedStore, IsPlannedStore, document_of}

@@ -4,7 +4,7 @@ use Rattle.std.specs.Prelude.{filter}
 use Rattle.std.specs.List.{AllByRecursion, flat_map}
 use Rattle.std.specs.Str.{bytes_eq}
 use Rattle.std.proofs.lemmas.Slice.Eq.{bytes_eq-Decides}
-use Rattle.doc_response.specs.Answered.{firsts, of_namespace}
+use Rattle.doc_response.specs.Answered.{distinct_texts, of_namespace}
 use Rattle.doc_response.specs.WrittenReads.{regrouped, spread_group}
 use Rattle.mso_digests.specs.Digests.{Digest}
 use Rattle.mso_digests.specs.MadeFrom.{IsDigestOf, MadeFrom, SomeOf}
@@ -44,7 +44,7 @@ all-of Q pairs [] all = tt
 all-of Q pairs (t ∷ ts) all = all-both Q (spread_group (of_namespace pairs t)) (flat_map spread_group (map (of_namespace pairs) ts)) (all-spread Q t pairs all) (all-of Q pairs ts all)
 
 regrouped-all : (Q : Pair → Type 0) (pairs : List Pair) → AllByRecursion Q pairs → AllByRecursion Q (regrouped pairs)
-regrouped-all Q pairs all = all-of Q pairs (firsts (map (λ (pair : Pair). pair.0) pairs)) all
+regrouped-all Q pairs all = all-of Q pairs (distinct_texts (map (λ (pair : Pair). pair.0) pairs)) all
 
 -- ---- one of them
 
@@ -98,13 +98,13 @@ some-kept text ns (t ∷ ts) other some = go (bytes_eq text t) refl (some-kept t
   go true is more (inr rest) = more rest
   go false is more (inr rest) = inr (more rest)
 
-some-first : (ns : List ℕ) (ts : List (List ℕ)) → SomeOf (Is ns) ts → SomeOf (Is ns) (firsts ts)
+some-first : (ns : List ℕ) (ts : List (List ℕ)) → SomeOf (Is ns) ts → SomeOf (Is ns) (distinct_texts ts)
 some-first ns [] some = absurd some
 some-first ns (t ∷ ts) (inl same) = inl same
 some-first ns (t ∷ ts) (inr rest) = go (bytes_eq t ns) refl (some-first ns ts rest) where
-  go : (b : Bool) → bytes_eq t ns ≡ b → SomeOf (Is ns) (firsts ts) → SomeOf (Is ns) (firsts (t ∷ ts))
+  go : (b : Bool) → bytes_eq t ns ≡ b → SomeOf (Is ns) (distinct_texts ts) → SomeOf (Is ns) (distinct_texts (t ∷ ts))
   go true is more = inl (same-text t ns is)
-  go false is more = inr (some-kept t ns (firsts ts) is more)
+  go false is more = inr (some-kept t ns (distinct_texts ts) is more)
 
 record HasNamespace (P : Pair → Type 0) (pairs : List Pair) : Type 0 where
   ns : List ℕ
@@ -120,7 +120,7 @@ regrouped-some : (P : Pair → Type 0) (pairs : List Pair) → SomeOf P pairs �
 regrouped-some P pairs some =
     let found = some-named P pairs some in
     let names = map (λ (pair : Pair). pair.0) pairs in
-    some-of P pairs (firsts names) found.ns (some-first found.ns names found.named) found.some
+    some-of P pairs (distinct_texts names) found.ns (some-first found.ns names found.named) found.some
 
 -- ---- an object that is made from them
 

@@ -5,17 +5,17 @@ use Rattle.std.specs.Str.Lines.{lines}
 use Rattle.std.proofs.lemmas.List.Elements.{All-nil}
 use Rattle.mdoc_outside.specs.Lines.{Line, file_lines, words}
 use Rattle.mdoc_outside.specs.ResultSteps.{◌>>=◌, or_fault}
-use Rattle.issuing.proofs.SpecHeaderLemmas.{bind_some, same_value, where_some}
-use Rattle.issuing.specs.SpecChecks.{first_failed, whole_checks}
-use Rattle.issuing.specs.SpecEnd.{some_elements, fields_of}
-use Rattle.issuing.specs.SpecFile as files
-use Rattle.issuing.specs.SpecLine as spec_lines
-use Rattle.issuing.specs.SpecSoFar.{SoFar, is_empty, nothing}
-use Rattle.issuing.specs.declared.spec_check.SpecCheck.TheVariants as checks
-use Rattle.issuing.specs.declared.spec_element.SpecElement.{SpecElement}
-use Rattle.issuing.specs.declared.spec_fault.SpecFault.{SpecFault}
-use Rattle.issuing.specs.declared.spec_fault.SpecFault.TheVariants as faults
-use Rattle.issuing.specs.declared.spec_fields.SpecFields.{SpecFields}
+use Rattle.issue_spec.proofs.SpecHeaderLemmas.{bind_some, same_value, where_some}
+use Rattle.issue_spec.specs.SpecChecks.{first_failed, whole_checks}
+use Rattle.issue_spec.specs.SpecEnd.{some_elements, fields_of}
+use Rattle.issue_spec.specs.SpecFile as files
+use Rattle.issue_spec.specs.SpecLine as spec_lines
+use Rattle.issue_spec.specs.SpecSoFar.{SoFar, is_empty, nothing}
+use Rattle.issue_spec.specs.declared.spec_check.SpecCheck.TheVariants as checks
+use Rattle.issue_spec.specs.declared.spec_element.SpecElement.{SpecElement}
+use Rattle.issue_spec.specs.declared.spec_fault.SpecFault.{SpecFault}
+use Rattle.issue_spec.specs.declared.spec_fault.SpecFault.TheVariants as faults
+use Rattle.issue_spec.specs.declared.spec_fields.SpecFields.{SpecFields}
 use Rattle.package_laws.proofs.SpecLineItems.{HaveItems, kept, ok-value, unless-ok, words-keep}
 use Rattle.package_laws.proofs.SpecValueItems.{IsItem}
 
@@ -23,8 +23,8 @@ then-ok : {A B : Type 0} (r : Result A SpecFault) (f : A → Result B SpecFault)
 then-ok (Ok x) f y e = (x, refl, e)
 then-ok (Err fault) f y e = absurd cc
 
-lines-keep : (new : Bool) (so_far end : SoFar) (all_lines : List Line) → HaveItems so_far.elements →
-    files.with_lines new so_far all_lines ≡ Ok end → HaveItems end.elements
+lines-keep : (new : Bool) (so_far end : SoFar) (package_lines : List Line) → HaveItems so_far.elements →
+    files.with_lines new so_far package_lines ≡ Ok end → HaveItems end.elements
 lines-keep new so_far end [] all e = kept so_far end (ok-value so_far end e) all
 lines-keep new so_far end (line ∷ rest) all e =
     let step = then-ok (files.with_line new line.number (spec_lines.spec_line line.bytes) so_far) (λ next. files.with_lines new next rest) end e in

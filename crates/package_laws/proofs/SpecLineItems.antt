@@ -5,14 +5,14 @@ use Rattle.std.specs.List.{All}
 use Rattle.std.specs.Str.{bytes_eq}
 use Rattle.std.proofs.lemmas.List.Elements.{All-push}
 use Rattle.mdoc_outside.specs.OptionSteps.{◌>>=◌}
-use Rattle.issuing.specs.SpecFile as files
-use Rattle.issuing.specs.SpecLine as spec_lines
-use Rattle.issuing.specs.SpecSoFar.{SoFar}
-use Rattle.issuing.specs.SpecValue.{value_in}
-use Rattle.issuing.specs.SpecWords.{name_of}
-use Rattle.issuing.specs.declared.spec_check.SpecCheck.{SpecCheck}
-use Rattle.issuing.specs.declared.spec_element.SpecElement.{SpecElement}
-use Rattle.issuing.specs.declared.spec_fault.SpecFault.{SpecFault}
+use Rattle.issue_spec.specs.SpecFile as files
+use Rattle.issue_spec.specs.SpecLine as spec_lines
+use Rattle.issue_spec.specs.SpecSoFar.{SoFar}
+use Rattle.issue_spec.specs.SpecValue.{value_in}
+use Rattle.issue_spec.specs.SpecWords.{name_of}
+use Rattle.issue_spec.specs.declared.spec_check.SpecCheck.{SpecCheck}
+use Rattle.issue_spec.specs.declared.spec_element.SpecElement.{SpecElement}
+use Rattle.issue_spec.specs.declared.spec_fault.SpecFault.{SpecFault}
 use Rattle.package_laws.proofs.SpecValueItems.{IsItem, IsSaid, value-said}
 
 -- each value is one

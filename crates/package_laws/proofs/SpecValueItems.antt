@@ -21,10 +21,10 @@ use Rattle.cbor_view.proofs.WholeReading.{reads-spells}
 use Rattle.cbor_view.proofs.WrittenParts.{IsPiece, piece-shortest}
 use Rattle.cbor_maps.specs.WrittenReads.{SpellsItem}
 use Rattle.mdoc_outside.specs.Decimals.{decimal_number, is_decimal}
-use Rattle.issuing.proofs.SpecForms.{date_utf8}
-use Rattle.issuing.proofs.SpecHeaderLemmas.{same_value, where_some}
-use Rattle.issuing.specs.SpecValue as values
-use Rattle.issuing.specs.SpecWords.{after_four_words, after_space, bytes_of, date_of, truth_of}
+use Rattle.issue_spec.proofs.SpecForms.{date_utf8}
+use Rattle.issue_spec.proofs.SpecHeaderLemmas.{same_value, where_some}
+use Rattle.issue_spec.specs.SpecValue as values
+use Rattle.issue_spec.specs.SpecWords.{after_four_words, after_space, bytes_of, date_of, truth_of}
 
 -- what is one piece of so many levels is an item of that many or more
 pub item-of : (d most : ℕ) (bytes : List ℕ) → d ≤ most → most ≤ 32 → IsPiece d bytes → SpellsItem most bytes

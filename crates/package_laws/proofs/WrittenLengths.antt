@@ -8,9 +8,9 @@ use Rattle.cbor_maps.specs.Writing.{key_bytes, map_head}
 use Rattle.cbor_view.specs.Shortest.{array_bytes, bytes_bytes, shortest_head}
 use Rattle.cose_msgs.specs.Written.{chain_map, sign1_bytes}
 use Rattle.doc_store.specs.Store.{Copy}
-use Rattle.issuing.specs.declared.spec_fields.SpecFields.{SpecFields}
+use Rattle.issue_spec.specs.declared.spec_fields.SpecFields.{SpecFields}
 use Rattle.mso_digests.specs.Written.{Draft, object_bytes, object_map}
-use Rattle.package_issue.specs.Package.{package_bytes}
+use Rattle.issuing.specs.Package.{package_bytes}
 use Rattle.store_write.specs.Written.{copy_bytes, document_map, store_map}
 
 parts-short : (parts : List (List ℕ)) (most : ℕ) → length (flat_map (λ (part : List ℕ). part) parts) ≤ most → AllByRecursion (λ (part : List ℕ). length part ≤ most) parts

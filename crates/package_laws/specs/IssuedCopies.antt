@@ -5,19 +5,19 @@ use Rattle.std.specs.List.{All, AllByRecursion}
 use Rattle.cose_msgs.specs.Message.{Signed, sign1}
 use Rattle.cose_msgs.specs.Written.{IsReadAs}
 use Rattle.doc_store.specs.Store.{Copy}
-use Rattle.issue_questions.specs.Ends.{end_at}
-use Rattle.issuing.specs.SpecFacts.{IsSpec}
-use Rattle.issuing.specs.SpecFile.{spec_of}
-use Rattle.issuing.specs.declared.spec_fields.SpecFields.{SpecFields}
+use Rattle.issuing.specs.Ends.{end_at}
+use Rattle.issue_spec.specs.SpecFacts.{IsSpec}
+use Rattle.issue_spec.specs.SpecFile.{spec_of}
+use Rattle.issue_spec.specs.declared.spec_fields.SpecFields.{SpecFields}
 use Rattle.key_device.specs.HasLine.{HasLine}
 use Rattle.key_device.specs.Plan.{FollowsAll, Walks}
 use Rattle.key_device.specs.declared.exchange.Exchange.{Exchange}
 use Rattle.mso_digests.specs.MadeFrom.{MadeFrom}
 use Rattle.mso_digests.specs.Object.{Object, object}
-use Rattle.package_issue.specs.Package.{issued_package}
-use Rattle.package_issue.specs.declared.issued.Issued.{Issued}
+use Rattle.issuing.specs.Package.{issued_package}
+use Rattle.issuing.specs.declared.issued.Issued.{Issued}
 use Rattle.package_laws.specs.IssuedStores.{document_of}
-use Rattle.store_laws.specs.Storable.{copy_by_namespace}
+use Rattle.store_write.specs.Storable.{copy_by_namespace}
 use Rattle.store_write.specs.Written.{store_bytes}
 
 -- The issuer's signature of a copy has an object as its payload that says what the spec says, and was made from the items

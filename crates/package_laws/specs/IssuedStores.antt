@@ -2,17 +2,17 @@
 use Rattle.std.specs.Prelude.{◌≡◌, ℕ, false, List, [], ◌∷◌, length, Some, Ok}
 use Rattle.std.specs.List.{All, AllByRecursion}
 use Rattle.doc_store.specs.Store.{Copy, Document, store}
-use Rattle.issue_questions.specs.Ends.{end_at}
-use Rattle.issued_items.specs.IssuedItems.{items_of, raw_items}
-use Rattle.issuing.specs.SpecFacts.{IsSpec}
-use Rattle.issuing.specs.SpecFile.{spec_of}
-use Rattle.issuing.specs.declared.spec_fields.SpecFields.{SpecFields}
+use Rattle.issuing.specs.Ends.{end_at}
+use Rattle.issuing.specs.IssuedItems.{items_of, raw_items}
+use Rattle.issue_spec.specs.SpecFacts.{IsSpec}
+use Rattle.issue_spec.specs.SpecFile.{spec_of}
+use Rattle.issue_spec.specs.declared.spec_fields.SpecFields.{SpecFields}
 use Rattle.key_device.specs.HasLine.{HasLine}
 use Rattle.key_device.specs.Plan.{FollowsAll, Walks}
 use Rattle.key_device.specs.declared.exchange.Exchange.{Exchange}
-use Rattle.package_issue.specs.Package.{issued_package}
-use Rattle.package_issue.specs.declared.issued.Issued.{Issued}
-use Rattle.store_laws.specs.Storable.{IsStore, by_namespace}
+use Rattle.issuing.specs.Package.{issued_package}
+use Rattle.issuing.specs.declared.issued.Issued.{Issued}
+use Rattle.store_write.specs.Storable.{IsStore, by_namespace}
 use Rattle.store_write.specs.Written.{store_bytes}
 
 -- the document of a spec with these copies

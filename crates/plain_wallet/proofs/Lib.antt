@@ -1,3 +1,3 @@
-pub mod Joining
+pub mod MessageJoiner
 pub mod RoundLemmas
 pub mod RunLemmas

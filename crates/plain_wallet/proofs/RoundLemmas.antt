@@ -14,13 +14,13 @@ use Rattle.session_seal.specs.Wallet.{WalletOpened, WalletSession, WalletStart, 
 use Rattle.wallet_model.specs.Round.{WalletRound, later_opened, round, round_of, session_at}
 use Rattle.wallet_model.specs.Setup.{Setup}
 use Rattle.wallet_model.specs.Wallet.{WalletRounds, wallet_session}
-use Rattle.wallet_reply.specs.RoundView.{GoesOn, end_after, round_seen}
-use Rattle.wallet_reply.specs.declared.after_round.AfterRound.{AfterRound}
-use Rattle.wallet_reply.specs.declared.after_round.AfterRound.TheVariants.{Open, Ended}
-use Rattle.wallet_reply.specs.declared.round.Round.{Round}
-use Rattle.wallet_round.specs.Rounds.{First, GoesOnFrom, IsFirstRound, IsNextRound, IsWanting, IsWithin, first_plan, next_plan}
-use Rattle.wallet_round.specs.declared.unanswered.Unanswered.{Unanswered}
-use Rattle.wallet_round.specs.declared.unanswered.Unanswered.TheVariants.{Back, Spent}
+use Rattle.wallet_core.specs.RoundView.{GoesOn, end_after, round_seen}
+use Rattle.wallet_core.specs.declared.after_round.AfterRound.{AfterRound}
+use Rattle.wallet_core.specs.declared.after_round.AfterRound.TheVariants.{Open, Ended}
+use Rattle.wallet_core.specs.declared.round.Round.{Round}
+use Rattle.wallet_core.specs.Rounds.{First, GoesOnFrom, IsFirstRound, IsNextRound, IsWanting, IsWithin, first_plan, next_plan}
+use Rattle.wallet_core.specs.declared.want_of_memory.WantOfMemory.{WantOfMemory}
+use Rattle.wallet_core.specs.declared.want_of_memory.WantOfMemory.TheVariants.{Back, Spent}
 use Rattle.plain_wallet.specs.Rounds.{AreRounds, AreRoundsAfter, FollowAfter}
 
 -- ---- the session after a round
@@ -92,11 +92,11 @@ later_rounds W session m ms r all later is follows = λ first text at.
 
 -- ---- want of memory
 
-was_wanting : {S A : Type 0} (p : Plan A) (state : S) {old new : List Exchange} (wanting : Unanswered S) → IsWanting p state old new wanting → Follows p old new None
+was_wanting : {S A : Type 0} (p : Plan A) (state : S) {old new : List Exchange} (wanting : WantOfMemory S) → IsWanting p state old new wanting → Follows p old new None
 was_wanting p state (Back same) is = unasked is.1
 was_wanting p state Spent is = is.0
 
-pub later_wanting : (W : Setup) (session : WalletSession) (m : List ℕ) (ms : List (List ℕ)) (wanting : Unanswered WalletSession) {old new : List Exchange}
+pub later_wanting : (W : Setup) (session : WalletSession) (m : List ℕ) (ms : List (List ℕ)) (wanting : WantOfMemory WalletSession) {old new : List Exchange}
     → 1 < session.place → IsNextRound W session m old new (Err wanting) → FollowAfter W (Open session) (m ∷ ms) old new None
 later_wanting W session m ms wanting later is = λ first text at.
     cut_short (then_rounds W (Ok (first, text)) (session.place + 1) ms)
@@ -171,7 +171,7 @@ session_wanting_after W start m ms r is follows =
     (cut_short (agreed_rounds is.opened)
     (round_before W is.opened 2 ms (round_seen r) r.after None (first_leads is.opened r.after is.goes_on) follows)))
 
-pub session_wanting : (W : Setup) (start : WalletStart) (m : List ℕ) (ms : List (List ℕ)) (wanting : Unanswered WalletStart) {old new : List Exchange}
+pub session_wanting : (W : Setup) (start : WalletStart) (m : List ℕ) (ms : List (List ℕ)) (wanting : WantOfMemory WalletStart) {old new : List Exchange}
     → IsFirstRound W start m old new (Err wanting) → Follows (wallet_session W start (m ∷ ms)) old new None
 session_wanting W start m ms wanting is =
     by_first W start m ms None (cut_short (then_session W ms) (was_wanting (first_plan W start m) start wanting is))

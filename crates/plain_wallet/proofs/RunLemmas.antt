@@ -5,7 +5,7 @@ use Rattle.ble_fragments.specs.Whole.{whole}
 use Rattle.ble_fragments.specs.declared.ending.Ending.{Ending}
 use Rattle.key_device.proofs.AllPlanLemmas.{all_cut, all_ended, all_more, all_undealt, by_one}
 use Rattle.key_device.proofs.PlanLemmas.{cut_short, ended, halted, then_more}
-use Rattle.key_device.specs.Plan.{Came, Follows, FollowsAll}
+use Rattle.key_device.specs.Plan.{Finished, Follows, FollowsAll}
 use Rattle.key_device.specs.PlanSteps.{unless_fault}
 use Rattle.key_device.specs.declared.exchange.Exchange.{Exchange}
 use Rattle.mdoc_outside.specs.declared.fragment.Fragment.{Fragment}
@@ -15,10 +15,10 @@ use Rattle.session_seal.specs.Wallet.{WalletStart}
 use Rattle.wallet_model.specs.Round.{WalletRound}
 use Rattle.wallet_model.specs.Setup.{Setup}
 use Rattle.wallet_model.specs.Wallet.{WalletRounds, closed, or_by_list, run_from, run_of, started, wallet, wallet_session}
-use Rattle.wallet_start.specs.Ends.{Fails, start_end}
-use Rattle.wallet_start.specs.declared.start_fault.StartFault.{StartFault}
-use Rattle.wallet_start.specs.declared.start_fault.StartFault.TheVariants as faults
-use Rattle.wallet_start.specs.declared.started.Started.{Started}
+use Rattle.wallet_core.specs.Ends.{Fails, start_end}
+use Rattle.wallet_core.specs.declared.start_fault.StartFault.{StartFault}
+use Rattle.wallet_core.specs.declared.start_fault.StartFault.TheVariants as faults
+use Rattle.wallet_core.specs.declared.started.Started.{Started}
 use Rattle.plain_wallet.specs.Rounds.{AreAll}
 use Rattle.plain_wallet.specs.Running.{Cause, IsRunOf, Runs, RunsFrom}
 use Rattle.plain_wallet.specs.declared.plain_run.PlainRun.{PlainRun}
@@ -57,7 +57,7 @@ session_ran W s came messages ending all (Err wanting) {new = new} is ends round
 
 -- the session was started, and its rounds followed
 pub ran : (W : Setup) (came : List Fragment) (s : Started) (plain : PlainRun) {old mid new : List Exchange} {dealt dealt' : List ℕ}
-    → FollowsAll started old [] dealt mid [] dealt' (Came (Ok s.state)) → s.engagement ≡ s.state.engagement → RunsFrom W s came mid new (Ok plain)
+    → FollowsAll started old [] dealt mid [] dealt' (Finished (Ok s.state)) → s.engagement ≡ s.state.engagement → RunsFrom W s came mid new (Ok plain)
     → Runs W came old new dealt dealt' (Ok plain)
 unfolding wallet
 ran W came s plain {dealt' = dealt'} asked same rounds = record {
@@ -67,7 +67,7 @@ ran W came s plain {dealt' = dealt'} asked same rounds = record {
 }
 
 pub ran_short : (W : Setup) (came : List Fragment) (s : Started) (wanting : Memory) {old mid new : List Exchange} {dealt dealt' : List ℕ}
-    → FollowsAll started old [] dealt mid [] dealt' (Came (Ok s.state)) → RunsFrom W s came mid new (Err wanting)
+    → FollowsAll started old [] dealt mid [] dealt' (Finished (Ok s.state)) → RunsFrom W s came mid new (Err wanting)
     → Runs W came old new dealt dealt' (Err faults.Memory)
 unfolding wallet
 ran_short W came s wanting {dealt' = dealt'} asked rounds = all_more (unless_fault (run_from W came)) asked (by_one [] dealt' rounds)

@@ -9,8 +9,8 @@ use Rattle.session_seal.specs.Wallet.{WalletOpened, WalletSession, WalletStart}
 use Rattle.wallet_model.specs.Round.{WalletRound, round, session_at}
 use Rattle.wallet_model.specs.Setup.{Setup}
 use Rattle.wallet_model.specs.Wallet.{wallet_session}
-use Rattle.wallet_reply.specs.declared.after_round.AfterRound.{AfterRound}
-use Rattle.wallet_reply.specs.declared.after_round.AfterRound.TheVariants.{Open, Ended}
+use Rattle.wallet_core.specs.declared.after_round.AfterRound.{AfterRound}
+use Rattle.wallet_core.specs.declared.after_round.AfterRound.TheVariants.{Open, Ended}
 
 -- a message is no longer than one that a session opens
 abbrev pub IsShort : List ℕ → Type 0

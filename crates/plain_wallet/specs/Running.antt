@@ -2,9 +2,7 @@
 use Rattle.std.specs.Prelude.{◌≡◌, ℕ, List, [], Some, None, Result, Ok, Err}
 use Rattle.ble_fragments.specs.Whole.{whole}
 use Rattle.ble_fragments.specs.declared.ending.Ending.{Ending}
-use Rattle.key_device.specs.Plan.{Came, End, Follows, FollowsAll, Undealt, Wanting}
-use Rattle.key_device.specs.declared.device_fault.DeviceFault.{DeviceFault}
-use Rattle.key_device.specs.declared.device_fault.DeviceFault.TheVariants.{Failed}
+use Rattle.key_device.specs.Plan.{Finished, Follows, FollowsAll}
 use Rattle.key_device.specs.declared.exchange.Exchange.{Exchange}
 use Rattle.mdoc_outside.specs.Faults.{Rose}
 use Rattle.mdoc_outside.specs.declared.fragment.Fragment.{Fragment}
@@ -13,9 +11,10 @@ use Rattle.round_model.specs.Rounds.{end_of_rounds, entries_of, replies_of}
 use Rattle.wallet_model.specs.Round.{WalletRound}
 use Rattle.wallet_model.specs.Setup.{Setup}
 use Rattle.wallet_model.specs.Wallet.{Run, closed, end_of, or_by_list, released_in, replies, run_from, wallet}
-use Rattle.wallet_start.specs.declared.start_fault.StartFault.{StartFault}
-use Rattle.wallet_start.specs.declared.start_fault.StartFault.TheVariants.{Device, Dice, Memory}
-use Rattle.wallet_start.specs.declared.started.Started.{Started}
+use Rattle.wallet_core.specs.Ends.{fault_end}
+use Rattle.wallet_core.specs.declared.start_fault.StartFault.{StartFault}
+use Rattle.wallet_core.specs.declared.start_fault.StartFault.TheVariants.{Device, Dice}
+use Rattle.wallet_core.specs.declared.started.Started.{Started}
 use Rattle.plain_wallet.specs.declared.plain_run.PlainRun.{PlainRun}
 
 -- A run is one of the definition, of fragments that end so; then the link is closed.
@@ -30,14 +29,8 @@ pub record IsRun (run : Run) (ending : Ending) (plain : PlainRun) : Type 0 where
 -- A run of the definition was followed to its outcome.
 pub record HasRun (W : Setup) (came : List Fragment) (old new : List Exchange) (dealt dealt' : List ℕ) (plain : PlainRun) : Type 0 where
   pub run : Run
-  pub follows : FollowsAll (wallet W came) old [] dealt new [] dealt' (Came (Ok run))
+  pub follows : FollowsAll (wallet W came) old [] dealt new [] dealt' (Finished (Ok run))
   pub is_run : IsRun run (whole came).ending plain
-
--- how a run that came to a fault ended
-abbrev pub fault_end : StartFault → End (Result Run DeviceFault)
-fault_end Device = Came (Err Failed)
-fault_end Dice = Undealt
-fault_end Memory = Wanting
 
 abbrev pub Runs : Setup → List Fragment → List Exchange → List Exchange → List ℕ → List ℕ → Result PlainRun StartFault → Type 0
 Runs W came old new dealt dealt' (Ok plain) = HasRun W came old new dealt dealt' plain

@@ -16,6 +16,6 @@ pub use plain_run::PlainRun;
 pub use session_seal::WalletEnd;
 pub use sharing::types_are_send_and_sync;
 pub use wallet::plain_wallet;
-pub use wallet_choice::WalletSetup;
+pub use wallet_answer::WalletSetup;
+pub use wallet_core::StartFault;
 pub use wallet_model::ReleasedAt;
-pub use wallet_start::StartFault;

@@ -6,9 +6,8 @@ ghost use Rattle.ble_fragments.specs.Whole.{whole};
 ghost use Rattle.plain_wallet.specs.Joined.{ending_heard, messages_heard};
 ghost use Rattle.plain_wallet.specs.Rounds.{IsShort};
 
-use ble_fragments::Ending;
+use ble_fragments::{Arrival, Ending, MessageJoiner};
 use mdoc_outside::{Fragment, Memory, Octets};
-use message_joining::{Heard, Joining};
 use std::alloc::Global;
 
 /// The messages of a list of fragments, and how the list ends.
@@ -22,16 +21,16 @@ pub(crate) struct MessageList {
 
 impl MessageList {
     /// Adds what a further fragment brings.
-    fn add(&mut self, heard: Heard) -> Result<(), Memory>
-        ensures messages { OnOk result (self.new.messages.items ≡ self.old.messages.items ++ messages_heard heard) }
-        ensures ending { OnOk result (self.new.ending ≡ ending_heard heard) }
+    fn add(&mut self, arrival: Arrival) -> Result<(), Memory>
+        ensures messages { OnOk result (self.new.messages.items ≡ self.old.messages.items ++ messages_heard arrival) }
+        ensures ending { OnOk result (self.new.ending ≡ ending_heard arrival) }
     {
-        match heard {
-            Heard::Message(message) => {
+        match arrival {
+            Arrival::Message(message) => {
                 self.messages.push(message)?;
                 self.ending = Ending::Open;
             }
-            Heard::Nothing(ending) => self.ending = ending,
+            Arrival::Nothing(ending) => self.ending = ending,
         }
         Ok(())
     }
@@ -43,14 +42,14 @@ pub(crate) fn join_messages(alloc: Global, fragments: &[Fragment]) -> Result<Mes
     ensures ending { IfOk result (λ list. list.ending ≡ (whole fragments.now).ending) }
     ensures short { IfOk result (λ list. All IsShort list.messages.items) }
 {
-    let mut joining = Joining::new(alloc);
+    let mut message_joiner = MessageJoiner::new(alloc);
     let mut list = MessageList {
         messages: Vec::new(alloc),
         ending: Ending::Open,
     };
     for fragment in fragments {
-        let heard = joining.hear(fragment)?;
-        list.add(heard)?;
+        let arrival = message_joiner.join(fragment)?;
+        list.add(arrival)?;
     }
     Ok(list)
 }

@@ -10,7 +10,7 @@ use ble_fragments::Ending;
 use mdoc_outside::{Memory, Octets, Rows};
 use session_seal::WalletEnd;
 use std::alloc::Global;
-use wallet_answer::add_places;
+use wallet_answer::append_released;
 use wallet_model::ReleasedAt;
 
 /// What a wallet comes to over all the fragments that came, after which the link was closed.
@@ -85,7 +85,7 @@ pub(crate) fn run_of(
     for round in rounds {
         let PlainRound { reply, places, .. } = round;
         add_reply(&mut replies, reply)?;
-        add_places(&mut released, places)?;
+        append_released(&mut released, places)?;
     }
     let end = end_of_run(ended, &replies, ending);
     Ok(PlainRun {

@@ -3,8 +3,8 @@
 ghost use Rattle.std.specs.List.{All};
 ghost use Rattle.key_device.specs.Gave.{Gave};
 ghost use Rattle.key_device.specs.Recording.{talk};
-ghost use Rattle.wallet_choice.specs.SetupView.{setup_of};
-ghost use Rattle.wallet_round.specs.Rounds.{IsWithin};
+ghost use Rattle.wallet_answer.specs.SetupView.{setup_of};
+ghost use Rattle.wallet_core.specs.Rounds.{IsWithin};
 ghost use Rattle.plain_wallet.specs.Rounds.{AreRounds, AreRoundsAfter, IsShort};
 
 use crate::plain_round::{PlainRound, with_round};
@@ -12,9 +12,8 @@ use key_device::{KeyDevice, Recorder};
 use mdoc_outside::{Memory, Octets};
 use session_seal::WalletEngaged;
 use std::alloc::Global;
-use wallet_choice::WalletSetup;
-use wallet_reply::{AfterRound, Round};
-use wallet_round::{first_round, next_round};
+use wallet_answer::WalletSetup;
+use wallet_core::{AfterRound, Round, first_round, next_round};
 
 /// The rounds of the messages after a round, up to the first that ends the session: none where that round ended it.
 #[tactic(auto, using(key_device::proofs::GaveLemmas::gave_exits))]

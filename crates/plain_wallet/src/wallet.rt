@@ -4,7 +4,7 @@ ghost use Rattle.key_device.specs.Gave.{Gave};
 ghost use Rattle.key_device.specs.Recording.{inner, talk};
 ghost use Rattle.mdoc_outside.specs.Dealt.{dealt, inner as dice_of};
 ghost use Rattle.mdoc_outside.specs.GaveWords.{GaveWords};
-ghost use Rattle.wallet_choice.specs.SetupView.{setup_of};
+ghost use Rattle.wallet_answer.specs.SetupView.{setup_of};
 ghost use Rattle.plain_wallet.specs.Running.{Cause, Runs, RunsFrom};
 
 use crate::PlainRun;
@@ -14,8 +14,8 @@ use crate::rounds::session_rounds;
 use key_device::{KeyDevice, Recorder};
 use mdoc_outside::{Dealt, Dice, Fragment, Memory};
 use std::alloc::Global;
-use wallet_choice::WalletSetup;
-use wallet_start::{StartFault, Started, start};
+use wallet_answer::WalletSetup;
+use wallet_core::{StartFault, Started, start};
 
 /// What a session that was started comes to.
 #[tactic(auto, using(key_device::proofs::GaveLemmas::gave_exits))]

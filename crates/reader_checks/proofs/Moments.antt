@@ -7,14 +7,14 @@ use Rattle.key_device.specs.Plan.{Follows}
 use Rattle.key_device.specs.PlanSteps.{each}
 use Rattle.key_device.specs.declared.device_fault.DeviceFault.{DeviceFault}
 use Rattle.key_device.specs.declared.exchange.Exchange.{Exchange}
-use Rattle.verdict_model.specs.Documents.{Setting, judged_document}
-use Rattle.verdict_model.specs.Shown.{Session}
+use Rattle.verdict_model.specs.Documents.{JudgeContext, judged_document}
+use Rattle.verdict_model.specs.Shown.{SessionBinding}
 use Rattle.verdict_model.specs.declared.doc_verdict.DocVerdict.{DocVerdict}
 
-abbrev setting_at : RequestDraft → Session → List Root → ℤ → Setting
+abbrev setting_at : RequestDraft → SessionBinding → List Root → ℤ → JudgeContext
 setting_at request session roots moment = record { request = request; session = session; roots = roots; moment = moment }
 
-pub at_moment : (request : RequestDraft) (session : Session) (roots : List Root) (docs : List Document) {one other : ℤ} {old new : List Exchange} {outcome : Option (Result (List DocVerdict) DeviceFault)}
+pub at_moment : (request : RequestDraft) (session : SessionBinding) (roots : List Root) (docs : List Document) {one other : ℤ} {old new : List Exchange} {outcome : Option (Result (List DocVerdict) DeviceFault)}
     → one ≡ other → Follows (each (judged_document (setting_at request session roots one)) docs) old new outcome
     → Follows (each (judged_document (setting_at request session roots other)) docs) old new outcome
 at_moment request session roots docs {old = old} {new = new} {outcome = outcome} same follows =

@@ -3,7 +3,7 @@
 ghost use Rattle.std.specs.Prelude.{◌≡◌, IfOk, [], Some, None, true};
 ghost use Rattle.mdoc_outside.specs.Faults.{HasCause};
 ghost use Rattle.doc_response.specs.ResponseDocs.{document_seen, documents_left};
-ghost use Rattle.document_checks.specs.Views.{setting_seen};
+ghost use Rattle.reader_checks.specs.Views.{setting_seen};
 ghost use Rattle.issuer_checks.specs.Views.{issued_seen};
 ghost use Rattle.key_device.specs.Gave.{Gave};
 ghost use Rattle.key_device.specs.Plan.{Follows};
@@ -16,10 +16,12 @@ ghost use Rattle.reader_checks.specs.Ending.{accepted_document, came_to};
 ghost use Rattle.reader_checks.specs.declared.judge_fault.JudgeFault.TheVariants.{Device, Memory};
 
 use crate::JudgeFault;
+use crate::device_signed::device_elements;
+use crate::document::document_checks;
+use crate::elements::element_verdicts;
+use crate::judge_context::JudgeContext;
 use doc_response::{ResponseDoc, ResponseDocs};
-use document_checks::{Setting, document_checks};
-use element_checks::{device_elements, element_verdicts};
-use issuer_checks::{Issued, Stop};
+use issuer_checks::{CheckEnd, IssuerStatement};
 use key_device::{KeyDevice, Recorder};
 use mdoc_outside::{Memory as OutOfMemory, Octets, Rows};
 use std::alloc::Global;
@@ -28,9 +30,9 @@ use verdict_model::{DocCheck, DocVerdict};
 /// The verdict on a document none of whose checks fails.
 fn accepted_document(
     alloc: Global,
-    setting: &Setting<'_>,
+    setting: &JudgeContext<'_>,
     document: &ResponseDoc<'_>,
-    it: &Issued<'_>,
+    it: &IssuerStatement<'_>,
 ) -> Result<DocVerdict, OutOfMemory>
     requires { have_length (object_seen it.now.object).digests ≡ true }
     ensures { IfOk result (λ verdict. verdict ≡ accepted_document (setting_seen setting.now) (document_seen document.now) (issued_seen it.now)) }
@@ -64,10 +66,10 @@ fn refused_document(
 }
 
 /// The verdict on a document.
-#[tactic(auto, using(key_device::proofs::PlanStepLemmas::turned_exits, key_device::proofs::PlanLemmas::halted, key_device::proofs::GaveLemmas::gave_exits), unfolding(verdict_model::specs::Documents::judged_document))]
+#[tactic(auto, using(key_device::proofs::PlanStepLemmas::mapped_exits, key_device::proofs::PlanLemmas::halted, key_device::proofs::GaveLemmas::gave_exits), unfolding(verdict_model::specs::Documents::judged_document))]
 fn judged_document<D: KeyDevice>(
     alloc: Global,
-    setting: &Setting<'_>,
+    setting: &JudgeContext<'_>,
     document: &ResponseDoc<'_>,
     device: &mut Recorder<D>,
 ) -> Result<DocVerdict, JudgeFault>
@@ -80,19 +82,19 @@ fn judged_document<D: KeyDevice>(
             Ok(verdict) => Ok(verdict),
             Err(_) => Err(JudgeFault::Memory),
         },
-        Err(Stop::Refused(check)) => match refused_document(alloc, document, check) {
+        Err(CheckEnd::Refused(check)) => match refused_document(alloc, document, check) {
             Ok(verdict) => Ok(verdict),
             Err(_) => Err(JudgeFault::Memory),
         },
-        Err(Stop::Device) => Err(JudgeFault::Device),
-        Err(Stop::Memory) => Err(JudgeFault::Memory),
+        Err(CheckEnd::Device) => Err(JudgeFault::Device),
+        Err(CheckEnd::Memory) => Err(JudgeFault::Memory),
     }
 }
 
 /// The verdicts on documents, in order.
 pub(crate) fn judged_documents<D: KeyDevice>(
     alloc: Global,
-    setting: &Setting<'_>,
+    setting: &JudgeContext<'_>,
     documents: ResponseDocs<'_>,
     device: &mut Recorder<D>,
 ) -> Result<Rows<DocVerdict>, JudgeFault>

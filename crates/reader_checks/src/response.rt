@@ -11,13 +11,13 @@ ghost use Rattle.reader_checks.specs.Ending.{came_to};
 ghost use Rattle.reader_checks.specs.declared.judge_fault.JudgeFault.TheVariants.{Device, Memory};
 
 use crate::JudgeFault;
+use crate::answered::unanswered;
 use crate::documents::judged_documents;
+use crate::judge_context::{JudgeContext, SessionBinding};
 use cert_view::Roots;
 use doc_request::RequestDraft;
 use doc_response::Response;
-use document_checks::{Session, Setting};
-use element_checks::unanswered;
-use issuer_checks::Trust;
+use issuer_checks::TrustedRoots;
 use key_device::{KeyDevice, Recorder};
 use std::alloc::Global;
 use verdict_model::Verdict;
@@ -39,12 +39,12 @@ pub fn judge<E: KeyDevice>(
     ensures gave { Gave E.gives E.unasked E.faults device.old device.new }
     ensures cause { HasCause Device Memory (E.faults (inner device.old)) (E.faults (inner device.new)) result }
 {
-    let session = Session { transcript, key };
-    let trust = Trust {
+    let session = SessionBinding { transcript, key };
+    let trust = TrustedRoots {
         roots: roots.list(),
         moment,
     };
-    let setting = Setting {
+    let setting = JudgeContext {
         request,
         session,
         trust,

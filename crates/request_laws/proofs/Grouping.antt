@@ -68,8 +68,8 @@ bytes_eq-turned a b = go (bytes_eq a b) (bytes_eq b a) refl refl where
   go : (x y : Bool) → bytes_eq a b ≡ x → bytes_eq b a ≡ y → x ≡ y
   go true true e f = refl
   go false false e f = refl
-  go true false e f = let turned : bytes_eq b a ≡ bytes_eq a a = ap (λ (z : List ℕ). bytes_eq z a) (sym (same a b e)) in let one : bytes_eq a b ≡ bytes_eq a a = ap (λ (z : List ℕ). bytes_eq a z) (sym (same a b e)) in absurd (cc)
-  go false true e f = let turned : bytes_eq a b ≡ bytes_eq b b = ap (λ (z : List ℕ). bytes_eq z b) (sym (same b a f)) in let one : bytes_eq b a ≡ bytes_eq b b = ap (λ (z : List ℕ). bytes_eq b z) (sym (same b a f)) in absurd (cc)
+  go true false e f = let mapped : bytes_eq b a ≡ bytes_eq a a = ap (λ (z : List ℕ). bytes_eq z a) (sym (same a b e)) in let one : bytes_eq a b ≡ bytes_eq a a = ap (λ (z : List ℕ). bytes_eq a z) (sym (same a b e)) in absurd (cc)
+  go false true e f = let mapped : bytes_eq a b ≡ bytes_eq b b = ap (λ (z : List ℕ). bytes_eq z b) (sym (same b a f)) in let one : bytes_eq b a ≡ bytes_eq b b = ap (λ (z : List ℕ). bytes_eq b z) (sym (same b a f)) in absurd (cc)
 
 -- a wish whose namespace is there already changes nothing
 known-same : (before : Wishes) (w x : WishDraft) → has_space w.ns before ≡ true → outside (before ++ w ∷ []) x ≡ outside before x

@@ -100,8 +100,8 @@ both : (a b : Bool) → (not a && b) ≡ true → (a ≡ false) × (b ≡ true)
 both true b e = absurd (cc)
 both false b e = (refl, e)
 
-turned : (a b : List ℕ) → bytes_eq a b ≡ false → bytes_eq b a ≡ false
-turned a b e = go (bytes_eq b a) refl where
+mapped : (a b : List ℕ) → bytes_eq a b ≡ false → bytes_eq b a ≡ false
+mapped a b e = go (bytes_eq b a) refl where
   go : (t : Bool) → bytes_eq b a ≡ t → t ≡ false
   go false is = refl
   go true is = let clash : bytes_eq a b ≡ true = (bytes_eq-Decides a b).1 (sym (same b a is)) in absurd (cc)
@@ -114,7 +114,7 @@ name-once ns d (w ∷ ws) own once = let parts = either (bytes_eq d.ns w.ns && b
   go first later true e =
       let equal : bytes_eq d.ns w.ns ≡ true = (bytes_eq-Decides d.ns w.ns).1 (own ∙ sym (same w.ns ns e)) in
       let other : bytes_eq d.name w.name ≡ false = subst (λ b. (b && bytes_eq d.name w.name) ≡ false) equal first in
-      rw (turned d.name w.name other) later
+      rw (mapped d.name w.name other) later
   go first later false e = later
 
 pub names-once : (ns : List ℕ) (ws : Wishes) → drafts.are_distinct ws ≡ true → NamesOnce (filter (is_in ns) ws)

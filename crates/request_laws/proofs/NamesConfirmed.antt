@@ -10,7 +10,10 @@ use Rattle.cert_view.specs.declared.root.Root.{Root}
 use Rattle.cose_msgs.specs.Structures.{signed_structure}
 use Rattle.cose_msgs.specs.Transcript.{reader_payload}
 use Rattle.doc_request.specs.Asked.{Document}
-use Rattle.doc_request.specs.Known.{Authentication, are_valid, authentication_of, by_verify, confirmed_by, confirming_root, is_valid, known, known_as, known_by, known_under, name_if, reader_signed, root_confirms, root_is_valid, signed_under, under_root, verified}
+use Rattle.doc_request.specs.Known.{Authentication, authentication_of, known, known_as, known_by, known_under, name_if, reader_signed, signed_under, under_root}
+use Rattle.root_trust.specs.Validity.{are_valid, is_valid, root_is_valid}
+use Rattle.key_device.specs.Questions.{by_verify, verified}
+use Rattle.root_trust.specs.Confirming.{confirmed_by, confirming_root, root_confirms}
 use Rattle.key_device.specs.Plan.{Plan, Done, Then, Other, Draw, bind, Walks}
 use Rattle.key_device.specs.PlanSteps.{unless_fault, ◌>>=◌, first_yes, unless_yes}
 use Rattle.key_device.specs.declared.ask.Ask.TheVariants.{Verify}
@@ -19,6 +22,7 @@ use Rattle.key_device.specs.declared.exchange.Exchange.{Exchange}
 use Rattle.key_device.specs.declared.point.Point.{Point}
 use Rattle.key_device.specs.declared.told.Told.{Told}
 use Rattle.key_device.specs.declared.told.Told.TheVariants as tells
+use Rattle.key_device.specs.declared.device_fault.DeviceFault.TheVariants.{Failed}
 use Rattle.request_laws.specs.Confirmed.{AreNamesConfirmed, Confirms, IsConfirmed}
 
 -- ---- walks in parts
@@ -90,7 +94,7 @@ from_back : {A : Type 0} (P : A → Type 0) (es front back : List A) → es ≡ 
 from_back P es front back joined some = subst (Any P) (sym joined) (in_back P front back some)
 
 -- a signature that is confirmed
-yes_of : (told : Told) → by_verify told ≡ Ok true → told ≡ tells.Yes
+yes_of : (told : Told) → by_verify Failed told ≡ Ok true → told ≡ tells.Yes
 yes_of (tells.Made made) is = cc
 yes_of (tells.Secret secret) is = cc
 yes_of tells.Refused is = cc
@@ -102,7 +106,7 @@ yes_of tells.Failed is = cc
 abbrev IsYes : Point → List ℕ → List ℕ → Exchange → Type 0
 IsYes key message signature e = (e.ask ≡ Verify key message signature) × (e.told ≡ tells.Yes)
 
-confirmed : (key : Point) (message signature : List ℕ) (es : List Exchange) → Walks (verified key message signature) es [] [] (Ok true) → Confirms es key message signature
+confirmed : (key : Point) (message signature : List ℕ) (es : List Exchange) → Walks (verified Failed key message signature) es [] [] (Ok true) → Confirms es key message signature
 confirmed key message signature [] walk = absurd walk
 confirmed key message signature (e ∷ []) walk = here (IsYes key message signature) e [] (walk.0, yes_of e.told (sym walk.1))
 confirmed key message signature (e ∷ (next ∷ es)) walk = absurd walk.1
@@ -124,7 +128,7 @@ not_false (e ∷ es) walk = walk
 says_yes : (cert : Fields) (root : Root) (roots : List Root) (read : Result Fields CertFault) (es : List Exchange) → certificate (listed root).bytes ≡ read → Walks (confirmed_by cert read) es [] [] (Ok true) → Trusts es (root ∷ roots) cert root
 says_yes cert root roots (Err fault) es is walk = absurd (not_false es walk)
 says_yes cert root roots (Ok fields) es is walk = by_name (bytes_eq fields.tbs.subject cert.tbs.issuer) refl walk where
-  by_name : (named : Bool) → bytes_eq fields.tbs.subject cert.tbs.issuer ≡ named → Walks (if named then verified fields.tbs.key cert.message cert.signature else Done (Ok false)) es [] [] (Ok true) → Trusts es (root ∷ roots) cert root
+  by_name : (named : Bool) → bytes_eq fields.tbs.subject cert.tbs.issuer ≡ named → Walks (if named then verified Failed fields.tbs.key cert.message cert.signature else Done (Ok false)) es [] [] (Ok true) → Trusts es (root ∷ roots) cert root
   by_name true issuer said = record { trusted = (0, omega arith, refl); fields = fields; reads = is; issuer = issuer; confirms = confirmed fields.tbs.key cert.message cert.signature es said }
   by_name false issuer said = absurd (not_false es said)
 

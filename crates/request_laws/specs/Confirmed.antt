@@ -7,7 +7,8 @@ use Rattle.cert_view.specs.declared.root.Root.{Root}
 use Rattle.cose_msgs.specs.Structures.{signed_structure}
 use Rattle.cose_msgs.specs.Transcript.{reader_payload}
 use Rattle.doc_request.specs.Asked.{Document}
-use Rattle.doc_request.specs.Known.{Authentication, authentication_of, is_valid, known}
+use Rattle.doc_request.specs.Known.{Authentication, authentication_of, known}
+use Rattle.root_trust.specs.Validity.{is_valid}
 use Rattle.key_device.specs.Plan.{Walks}
 use Rattle.key_device.specs.declared.ask.Ask.TheVariants.{Verify}
 use Rattle.key_device.specs.declared.exchange.Exchange.{Exchange}

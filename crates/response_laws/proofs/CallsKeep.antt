@@ -13,10 +13,11 @@ use Rattle.cbor_view.specs.Tree.{Tree, Array, Bytes, Float, Map, Negative, Simpl
 use Rattle.cbor_view.proofs.PartsInRow.{tag-made}
 use Rattle.cbor_view.proofs.Splitting.{is-read}
 use Rattle.cbor_view.proofs.WholeReading.{reads-spells, spells-reads}
-use Rattle.cbor_maps.specs.Reading.{encoded_in}
+use Rattle.cbor_maps.specs.Reading.{encoded_in, tagged_string}
 use Rattle.cbor_maps.specs.WrittenReads.{SpellsItem}
 use Rattle.cbor_maps.proofs.Within.{given}
-use Rattle.issuer_items.specs.Item.{item, tagged_string}
+use Rattle.issuer_items.specs.declared.item_fault.ItemFault.TheVariants.{NotTagged}
+use Rattle.issuer_items.specs.Item.{item}
 use Rattle.doc_response.specs.Answered.{Answered}
 use Rattle.doc_response.specs.Draft.{Document, and_item, and_missing, last_changed}
 use Rattle.response_laws.specs.Calls.{DocumentKeeps, IsIssuerAuth, IsRead, ItemKeeps, MissingKeeps, NothingKeeps}
@@ -87,7 +88,7 @@ made-item raw n q b made is =
       nesting = omega arith;
     }
 
-string-item : (raw b : List ℕ) → AreBytes raw → (r : Result Tree CborFault) → reads raw ≡ r → tagged_string (part_of raw r) ≡ Ok b → SpellsItem 25 raw
+string-item : (raw b : List ℕ) → AreBytes raw → (r : Result Tree CborFault) → reads raw ≡ r → tagged_string NotTagged (part_of raw r) ≡ Ok b → SpellsItem 25 raw
 string-item raw b are (Err fault) read is = absurd cc
 string-item raw b are (Ok t) read is =
     let whole : Part = record { at = 0; bytes = raw } in
@@ -102,7 +103,7 @@ first-ok (Err fault) next ok = absurd cc
 raw-item : (raw : List ℕ) → IsRead raw → SpellsItem 25 raw
 unfolding item
 raw-item raw is =
-    let string = first-ok (tagged_string (part_of raw (reads raw))) _ is.item in
+    let string = first-ok (tagged_string NotTagged (part_of raw (reads raw))) _ is.item in
     string-item raw string.0 is.are_bytes (reads raw) refl string.1
 
 -- ---- the last document

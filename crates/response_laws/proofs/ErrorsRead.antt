@@ -9,7 +9,7 @@ use Rattle.cbor_view.specs.Parts.{Part, tree_in}
 use Rattle.cbor_view.specs.Shortest.{array_bytes, map_bytes, text_bytes, uint_bytes}
 use Rattle.cbor_view.specs.Tree.{Unsigned, int_of}
 use Rattle.cbor_view.proofs.WrittenParts.{AllPieces, ArePieces, IsPiece, entries_from, items-written, items_begin, pairs-written, pairs_begin, parts_from, piece-array, piece-map, piece-shortest, tree-shortest}
-use Rattle.doc_response.specs.Answered.{document_error, error_entry, errors_entry, errors_map, firsts, grouped, if_any, of_namespace}
+use Rattle.doc_response.specs.Answered.{document_error, error_entry, errors_entry, errors_map, distinct_texts, grouped, if_any, of_namespace}
 use Rattle.doc_response.specs.Response as reading
 use Rattle.doc_response.specs.ResponseParts.{are_element_errors, error_of, errors_in, namespace_errors}
 use Rattle.doc_response.specs.WrittenReads.{IsText, plain_part}
@@ -118,7 +118,7 @@ groups-of missing are (space ∷ spaces) all =
 error-groups : (missing : Pairs) → AreNames missing → AllByRecursion IsErrors (grouped missing)
 error-groups missing are =
     let spaces = map (λ (element : List ℕ × List ℕ). element.0) missing in
-    groups-of missing are (firsts spaces) (firsts-all IsText spaces (map-all IsText (λ (element : List ℕ × List ℕ). element.0) missing (spaces-all missing are.each)))
+    groups-of missing are (distinct_texts spaces) (firsts-all IsText spaces (map-all IsText (λ (element : List ℕ × List ℕ). element.0) missing (spaces-all missing are.each)))
 
 few-groups : (missing : Pairs) → length missing < 2 ^ 32 → length (map errors_entry (grouped missing)) < 2 ^ 32
 few-groups missing few =

@@ -1,12 +1,10 @@
 -- What contracts see of a message that was read.
 use Rattle.std.specs.Prelude.{ℕ, List, option_map}
 use Rattle.std.specs.Borrow.{Bor}
+use Rattle.mdoc_outside.specs.Borrowed.{content}
 use Rattle.session_seal.specs.declared.session_data.SessionData as data_read
 use Rattle.session_seal.specs.declared.session_establishment.SessionEstablishment as establishment_read
 use Rattle.session_seal.specs.Messages.{SessionData, Establishment, KeyAndText}
-
-abbrev pub content : Bor (List ℕ) → List ℕ
-content bytes = bytes.now
 
 abbrev pub fields : data_read.SessionData → SessionData
 fields message = record { sealed = option_map content message.sealed; status = message.status }

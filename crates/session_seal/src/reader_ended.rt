@@ -1,8 +1,8 @@
 //! A session of the reader that has ended.
 
 ghost use Rattle.std.specs.Prelude.{◌≡◌, option_map};
+ghost use Rattle.mdoc_outside.specs.Borrowed.{content};
 ghost use Rattle.session_seal.specs.Ending.{silent, with_status};
-ghost use Rattle.session_seal.specs.MessageView.{content};
 ghost use Rattle.session_seal.specs.Stopping.{status_number};
 ghost use Rattle.session_seal.specs.declared.reader_end.ReaderEnd.TheVariants.{SessionForm};
 

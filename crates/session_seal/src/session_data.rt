@@ -27,7 +27,7 @@ impl<'a> SessionData<'a> {
     #[tactic(auto, unfolding(crate::specs::Messages::session_data))]
     pub fn read(bytes: &'a [u8]) -> Option<SessionData<'a>>
         ensures exact { option_map fields result ≡ session_data bytes.now }
-        ensures lies { IfSome result (λ m. IfSome (fields m).sealed (IsPart bytes.now)) }
+        ensures stands_in { IfSome result (λ m. IfSome (fields m).sealed (IsPart bytes.now)) }
     {
         let Ok(map) = View::read(bytes) else {
             return None;
@@ -47,7 +47,7 @@ impl<'a> SessionData<'a> {
     /// The fields of a map.
     fn of_map(map: &View<'a>) -> Result<SessionData<'a>, MapFault>
         ensures exact { Gives fields result (data_of_map (part map.now)) }
-        ensures lies { IfOk result (λ m. IfSome (fields m).sealed (IsPart (part map.now).bytes)) }
+        ensures stands_in { IfOk result (λ m. IfSome (fields m).sealed (IsPart (part map.now).bytes)) }
     {
         let map = NamedMap::new(map, &[KeyName::Data, KeyName::Status]);
         map.distinct()?;

@@ -32,7 +32,7 @@ impl<'a> SessionEstablishment<'a> {
     #[tactic(auto, unfolding(crate::specs::Messages::establishment))]
     pub fn read(bytes: &'a [u8]) -> Option<SessionEstablishment<'a>>
         ensures exact { option_map parts result ≡ establishment bytes.now }
-        ensures lies { IfSome result (λ m. IsPart bytes.now (parts m).sealed) }
+        ensures stands_in { IfSome result (λ m. IsPart bytes.now (parts m).sealed) }
     {
         let Ok(map) = View::read(bytes) else {
             return None;
@@ -57,7 +57,7 @@ impl<'a> SessionEstablishment<'a> {
 /// The bytes of the key and the sealed text of a map.
 fn key_and_text<'a>(map: &View<'a>) -> Result<(&'a [u8], &'a [u8]), MapFault>
     ensures exact { Gives key_and_text_of result (key_and_text (part map.now)) }
-    ensures lies { IfOk result (λ fields. IsPart (part map.now).bytes fields.1.now) }
+    ensures stands_in { IfOk result (λ fields. IsPart (part map.now).bytes fields.1.now) }
 {
     let map = NamedMap::new(map, &[KeyName::EReaderKey, KeyName::Data]);
     map.distinct()?;

@@ -4,8 +4,7 @@ use crate::{
     Kept, ReaderAnswered, ReaderEnded, ReaderEngaged, ReaderReady, ReaderWaiting, Stop,
     WalletAsked, WalletEnded, WalletEngaged, WalletOpen,
 };
-
-fn is_send<T: Send>() {}
+use mdoc_outside::is_send;
 
 /// The states of a session may be handed to another thread.
 pub fn types_are_send() {

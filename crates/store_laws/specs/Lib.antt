@@ -1,2 +1,1 @@
-pub mod Nested
-pub mod Storable
+pub mod StoreLies

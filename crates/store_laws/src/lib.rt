@@ -1,9 +1,8 @@
-//! Laws of store files, alone.
+//! Laws of where the parts of a store file stand, alone.
 //!
-//! The one contract: a store that was written is read as it was given, and what is read of a store is nested no deeper
-//! than the form of the file leaves room for.
+//! The one contract: what is read of a store stands in its file, each part at its place.
 #![tactic(auto)]
 
 mod laws;
 
-pub use laws::{read_store_is_storable, stored_parts_are_nested, written_store_is_read};
+pub use laws::stored_parts_stand_in_bytes;

@@ -1,2 +1,11 @@
 pub mod InRow
 pub mod Parts
+pub mod Nesting
+pub mod StoredFields
+pub mod Nested
+pub mod Pieces
+pub mod WrittenRead
+pub mod Grouped
+pub mod ReadAgain
+pub mod Added
+pub mod MergedStore

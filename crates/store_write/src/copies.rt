@@ -9,11 +9,10 @@ ghost use Rattle.store_write.specs.CopyView.{copy_seen};
 ghost use Rattle.store_write.specs.Written.{copy_bytes};
 
 use crate::CopyDraft;
-use crate::fields::count_of;
 use crate::heads::put_copy_head;
 use crate::room::copy_room;
-use cbor_write::Build;
-use doc_response::{ReleasedItem, put_items};
+use cbor_write::{Build, count_of};
+use doc_response::{ReleasedItem, append_items};
 use doc_store::{Document, StoredCopy};
 use mdoc_outside::{Memory, Octets};
 use std::alloc::Global;
@@ -23,7 +22,7 @@ pub fn put_copy(alloc: Global, build: &mut Build, copy: &CopyDraft<'_>) -> Resul
     ensures { OnOk result (build.new ≡ build.old ++ copy_bytes (copy_seen copy.now)) }
 {
     put_copy_head(build, copy.key, copy.used, copy.issuer_auth)?;
-    put_items(alloc, build, copy.items)
+    append_items(alloc, build, copy.items)
 }
 
 /// The bytes of a copy.

@@ -6,10 +6,9 @@ ghost use Rattle.doc_store.specs.Document.{document_of};
 ghost use Rattle.store_write.specs.Written.{document_bytes, store_bytes};
 
 use crate::copies::put_stored_copies;
-use crate::fields::count_of;
 use crate::heads::{put_document_head, put_store_head};
 use crate::room::store_room;
-use cbor_write::Build;
+use cbor_write::{Build, count_of};
 use doc_store::Document;
 use mdoc_outside::{Memory, Octets};
 use std::alloc::Global;

@@ -3,7 +3,8 @@
 ghost use Rattle.std.specs.Prelude.{◌≡◌, ◌++◌, OnOk};
 ghost use Rattle.store_write.specs.Written.{copy_head, document_head, package_head, store_head};
 
-use crate::fields::{VERSION, auth_number, put_key, put_map};
+use crate::fields::{VERSION, auth_number};
+use cbor_maps::{append_key, append_map_head};
 use cbor_write::Build;
 use mdoc_outside::{KeyName, Memory};
 
@@ -17,14 +18,14 @@ pub fn put_copy_head(
 ) -> Result<(), Memory>
     ensures { OnOk result (build.new ≡ build.old ++ copy_head key used issuer_auth.now) }
 {
-    put_map(build, 4)?;
-    put_key(build, KeyName::Key)?;
+    append_map_head(build, 4)?;
+    append_key(build, KeyName::Key)?;
     build.uint(u64::from(key))?;
-    put_key(build, KeyName::Used)?;
+    append_key(build, KeyName::Used)?;
     build.boolean(used)?;
-    put_key(build, KeyName::IssuerAuth)?;
+    append_key(build, KeyName::IssuerAuth)?;
     build.append(issuer_auth)?;
-    put_key(build, KeyName::NameSpaces)
+    append_key(build, KeyName::NameSpaces)
 }
 
 /// Appends what stands in a document before the array of its copies.
@@ -36,12 +37,12 @@ pub(crate) fn put_document_head(
 ) -> Result<(), Memory>
     ensures { OnOk result (build.new ≡ build.old ++ document_head doc_type.now uses_mac) }
 {
-    put_map(build, 3)?;
-    put_key(build, KeyName::DocType)?;
+    append_map_head(build, 3)?;
+    append_key(build, KeyName::DocType)?;
     build.text(doc_type)?;
-    put_key(build, KeyName::Auth)?;
+    append_key(build, KeyName::Auth)?;
     build.uint(auth_number(uses_mac))?;
-    put_key(build, KeyName::Copies)
+    append_key(build, KeyName::Copies)
 }
 
 /// Appends what stands in a store before the array of its documents.
@@ -49,10 +50,10 @@ pub(crate) fn put_document_head(
 pub(crate) fn put_store_head(build: &mut Build) -> Result<(), Memory>
     ensures { OnOk result (build.new ≡ build.old ++ store_head) }
 {
-    put_map(build, 2)?;
-    put_key(build, KeyName::Version)?;
+    append_map_head(build, 2)?;
+    append_key(build, KeyName::Version)?;
     build.uint(VERSION)?;
-    put_key(build, KeyName::Documents)
+    append_key(build, KeyName::Documents)
 }
 
 /// Appends what stands in a package of one document before the array of its copies.

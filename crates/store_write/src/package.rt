@@ -4,10 +4,9 @@ ghost use Rattle.std.specs.Prelude.{◌≡◌, ◌++◌, IfOk, OnOk, [], ◌∷�
 ghost use Rattle.cbor_view.specs.Shortest.{array_bytes};
 ghost use Rattle.store_write.specs.Written.{document_map, store_map};
 
-use crate::fields::count_of;
 use crate::heads::put_package_head;
 use crate::room::package_room;
-use cbor_write::Build;
+use cbor_write::{Build, count_of};
 use mdoc_outside::{Memory, Octets};
 use std::alloc::Global;
 

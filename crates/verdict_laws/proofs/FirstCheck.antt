@@ -2,7 +2,8 @@
 use Rattle.std.proofs.Common.{◌≡◌, ◌<◌, ℕ, List, Bool, true, false, not, Option, Some, None, refl, subst, arith}
 use Rattle.std.specs.Str.{bytes_eq}
 use Rattle.std.proofs.lemmas.Slice.Eq.{bytes_eq-Decides}
-use Rattle.verdict_model.specs.Elements.{digest_check, if_differs, unless, or_next}
+use Rattle.mdoc_outside.specs.OptionSteps.{unless}
+use Rattle.verdict_model.specs.Elements.{digest_check, if_differs, or_next}
 use Rattle.verdict_laws.specs.FirstCheck.{IsFirst, NoneFails, place, Fails}
 use Rattle.verdict_model.specs.declared.element_check.ElementCheck.{ElementCheck}
 use Rattle.verdict_model.specs.declared.element_check.ElementCheck.TheVariants as checks

@@ -1,1 +1,3 @@
 pub mod FirstCheck
+pub mod Found
+pub mod Conditions

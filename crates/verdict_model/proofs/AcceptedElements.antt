@@ -5,6 +5,7 @@ use Rattle.std.specs.Str.{bytes_eq}
 use Rattle.std.specs.Bool.{Decides}
 use Rattle.std.proofs.lemmas.Bool.Decides.{Decides-eqb}
 use Rattle.std.proofs.lemmas.Slice.Eq.{bytes_eq-Decides}
+use Rattle.mdoc_outside.specs.OptionSteps.{unless}
 use Rattle.doc_request.specs.declared.request_draft.RequestDraft.{RequestDraft}
 use Rattle.issuer_items.specs.Item.{Item, item}
 use Rattle.issuer_items.specs.declared.item_fault.ItemFault.{ItemFault}
@@ -12,7 +13,7 @@ use Rattle.mso_digests.specs.Digests.{Digest, digest_at}
 use Rattle.mso_digests.specs.MadeFrom.{IsDigestOf, Lists, Placed, SomeOf}
 use Rattle.mso_digests.specs.Object.{Object}
 use Rattle.sha2.specs.Sha256.{sha256}
-use Rattle.verdict_model.specs.Elements.{check_of, digest_check, if_differs, is_accepted, is_requested, or_next, unless, verdict_of}
+use Rattle.verdict_model.specs.Elements.{check_of, digest_check, if_differs, is_accepted, is_requested, or_next, verdict_of}
 use Rattle.verdict_model.specs.Laws.{AreAcceptedRequested, AreAcceptedSigned, Collides, IsAccepted, IsItem, WasAsked}
 use Rattle.verdict_model.specs.declared.element_check.ElementCheck.{ElementCheck}
 use Rattle.verdict_model.specs.declared.element_check.ElementCheck.TheVariants as checks

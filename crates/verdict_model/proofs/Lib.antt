@@ -1,2 +1,3 @@
 mod AcceptedElements
 mod Sound
+pub mod Covered

@@ -9,7 +9,8 @@ use Rattle.cert_view.specs.declared.cert_fault.CertFault.{CertFault}
 use Rattle.cert_view.specs.declared.root.Root.{Root}
 use Rattle.cose_msgs.specs.Message.{Signed, Authenticated}
 use Rattle.cose_msgs.specs.Structures.{signed_structure}
-use Rattle.doc_request.specs.Known.{by_verify, confirmed_by, confirming_root, root_confirms, verified}
+use Rattle.key_device.specs.Questions.{by_verify, verified}
+use Rattle.root_trust.specs.Confirming.{confirmed_by, confirming_root, root_confirms}
 use Rattle.doc_response.specs.Response.{Document}
 use Rattle.key_device.specs.Plan.{Plan, Done, Then, Other, Draw, bind, Walks}
 use Rattle.key_device.specs.PlanSteps.{unless_fault, ◌>>=◌, first_yes, unless_yes}
@@ -19,12 +20,14 @@ use Rattle.key_device.specs.declared.exchange.Exchange.{Exchange}
 use Rattle.key_device.specs.declared.point.Point.{Point}
 use Rattle.key_device.specs.declared.told.Told.{Told}
 use Rattle.key_device.specs.declared.told.Told.TheVariants as tells
+use Rattle.key_device.specs.declared.device_fault.DeviceFault.TheVariants.{Failed}
 use Rattle.mso_digests.specs.Object.{Object, object}
 use Rattle.mso_digests.specs.declared.mso_fault.MsoFault.{MsoFault}
-use Rattle.verdict_model.specs.Documents.{Setting, and_shown, document_checks}
+use Rattle.verdict_model.specs.Documents.{JudgeContext, and_shown, document_checks}
 use Rattle.verdict_model.specs.Elements.{is_type_requested}
-use Rattle.verdict_model.specs.Issued.{Issued, Signer, device_key, has_named_root, issued, issuer_auth, object_of, signer_certificate, signer_of, timely, trusted_signer, with_key}
-use Rattle.verdict_model.specs.Shown.{DeviceProof, BySignature, ByMac, Session, by_agreement, code_of, device_proof, payload_of, shown, shown_by}
+use Rattle.verdict_model.specs.IssuerStatement.{IssuerStatement, Signer, device_key, issued, issuer_auth, object_of, signer_certificate, signer_of, timely, trusted_signer, with_key}
+use Rattle.root_trust.specs.Names.{has_named_root}
+use Rattle.verdict_model.specs.Shown.{DeviceProof, BySignature, ByMac, SessionBinding, by_agreement, code_of, device_proof, payload_of, shown, shown_by}
 use Rattle.verdict_model.specs.Soundness.{AreAcceptedSound, Confirms, Holds, IsSound, ShowsByMac, ShowsBySignature, Trusts}
 use Rattle.verdict_model.specs.Steps.{Stop, Refused, Unanswered, asked_of_device, check_that, needed, or_unanswered}
 use Rattle.verdict_model.specs.declared.doc_check.DocCheck.{DocCheck}
@@ -126,7 +129,7 @@ from_back : (ask : Ask) (told : Told) (es front back : List Exchange) → es ≡
 from_back ask told es front back joined some = subst (λ (xs : List Exchange). Holds xs ask told) (sym joined) (in_back ask told front back some)
 
 -- a signature that is confirmed
-yes_of : (told : Told) → by_verify told ≡ Ok true → told ≡ tells.Yes
+yes_of : (told : Told) → by_verify Failed told ≡ Ok true → told ≡ tells.Yes
 yes_of (tells.Made made) is = cc
 yes_of (tells.Secret secret) is = cc
 yes_of tells.Refused is = cc
@@ -135,7 +138,7 @@ yes_of tells.Yes is = refl
 yes_of tells.No is = cc
 yes_of tells.Failed is = cc
 
-confirmed : (key : Point) (message signature : List ℕ) (es : List Exchange) → Walks (verified key message signature) es [] [] (Ok true)
+confirmed : (key : Point) (message signature : List ℕ) (es : List Exchange) → Walks (verified Failed key message signature) es [] [] (Ok true)
     → Confirms es key message signature
 confirmed key message signature [] walk = absurd walk
 confirmed key message signature (e ∷ []) walk = inl (walk.0, yes_of e.told (sym walk.1))
@@ -166,7 +169,7 @@ says_yes : (cert : Fields) (root : Root) (roots : List Root) (read : Result Fiel
 says_yes cert root roots (Ok fields) es is walk = by_name (bytes_eq fields.tbs.subject cert.tbs.issuer) refl walk
   where
     by_name : (named : Bool) → bytes_eq fields.tbs.subject cert.tbs.issuer ≡ named
-        → Walks (if named then verified fields.tbs.key cert.message cert.signature else Done (Ok false)) es [] [] (Ok true) → Trusts es (root ∷ roots) cert
+        → Walks (if named then verified Failed fields.tbs.key cert.message cert.signature else Done (Ok false)) es [] [] (Ok true) → Trusts es (root ∷ roots) cert
     by_name true named said =
         record { root = root; trusted = inl refl; fields = fields; reads = is; named = named; confirmed = confirmed fields.tbs.key cert.message cert.signature es said }
     by_name false named said = absurd (no_outcome es said)
@@ -247,7 +250,7 @@ object_is (Err fault) o is = cc
 is_object : (moment : ℤ) (doc_type : List ℕ) (signer : Signer) (es : List Exchange) (o : Object)
     → Walks (object_of moment doc_type signer) es [] [] (Ok o) → IsObject signer es o
 is_object moment doc_type signer es o walk =
-    let asked = verified signer.cert.tbs.key (issuer_message signer) signer.auth.signed.signature in
+    let asked = verified Failed signer.cert.tbs.key (issuer_message signer) signer.auth.signed.signature in
     let yes = stepped (asked_of_device asked) _ es o walk in
     let true_of = stepped (check_that checks.IssuerSignature yes.value) _ yes.back o yes.after in
     let read = stepped (needed checks.MsoForm (result_ok (object signer.auth.payload))) _ true_of.back o true_of.after in
@@ -265,7 +268,7 @@ is_object moment doc_type signer es o walk =
 
 -- ---- what the issuer says
 
-record IsIssued (roots : List Root) (item : Part) (es : List Exchange) (said : Issued) : Type 0 where
+record IsIssued (roots : List Root) (item : Part) (es : List Exchange) (said : IssuerStatement) : Type 0 where
   signer : Signer
   auth : issuer_auth item ≡ Some signer.auth
   cert : signer_certificate signer.auth ≡ Some signer.cert
@@ -274,7 +277,7 @@ record IsIssued (roots : List Root) (item : Part) (es : List Exchange) (said : I
   payload : object signer.auth.payload ≡ Ok said.object
   key : device_key said.object ≡ Some said.key
 
-is_issued : (roots : List Root) (moment : ℤ) (doc_type : List ℕ) (item : Part) (es : List Exchange) (said : Issued)
+is_issued : (roots : List Root) (moment : ℤ) (doc_type : List ℕ) (item : Part) (es : List Exchange) (said : IssuerStatement)
     → Walks (issued roots moment doc_type item) es [] [] (Ok said) → IsIssued roots item es said
 unfolding issued
 is_issued roots moment doc_type item es said walk =
@@ -283,7 +286,7 @@ is_issued roots moment doc_type item es said walk =
     let key = stepped (needed checks.DeviceKeyForm (device_key whole.value)) _ whole.back said whole.after in
     let by = is_signer roots moment item signer.front signer.value signer.before in
     let of_object = is_object moment doc_type signer.value signer.back whole.value signer.after in
-    subst (IsIssued roots item es) (same_outcome Issued Stop (record { object = whole.value; key = key.value }) said key.back key.after)
+    subst (IsIssued roots item es) (same_outcome IssuerStatement Stop (record { object = whole.value; key = key.value }) said key.back key.after)
     (record {
       signer = signer.value;
       auth = by.auth;
@@ -298,7 +301,7 @@ is_issued roots moment doc_type item es said walk =
 -- ---- the device
 
 -- what was told of the device key and the reader's own
-record Agreed (session : Session) (payload : List ℕ) (code : Authenticated) (told : Told) : Type 0 where
+record Agreed (session : SessionBinding) (payload : List ℕ) (code : Authenticated) (told : Told) : Type 0 where
   secret : List ℕ
   was : told ≡ tells.Secret secret
   same : bytes_eq code.tag (code_of session payload code.protected secret) ≡ true
@@ -310,7 +313,7 @@ stopped_never : (stop : Stop) (es : List Exchange) (u : Unit {0}) → Walks (sto
 stopped_never stop [] u walk = cc
 stopped_never stop (e ∷ es) u walk = walk
 
-agreed : (session : Session) (payload : List ℕ) (code : Authenticated) (told : Told) (es : List Exchange) (u : Unit {0})
+agreed : (session : SessionBinding) (payload : List ℕ) (code : Authenticated) (told : Told) (es : List Exchange) (u : Unit {0})
     → Walks (by_agreement session payload code told) es [] [] (Ok u) → Agreed session payload code told
 agreed session payload code (tells.Secret secret) es u walk =
     record {
@@ -325,11 +328,11 @@ agreed session payload code tells.Yes es u walk = absurd (stopped_never Unanswer
 agreed session payload code tells.No es u walk = absurd (stopped_never Unanswered es u walk)
 agreed session payload code tells.Failed es u walk = absurd (stopped_never Unanswered es u walk)
 
-by_signature : (s : Setting) (d : Document) (key : Point) (signed : Signed) (es : List Exchange) (u : Unit {0})
+by_signature : (s : JudgeContext) (d : Document) (key : Point) (signed : Signed) (es : List Exchange) (u : Unit {0})
     → device_proof d.device_auth ≡ Some (BySignature signed)
     → Walks (shown_by s.session key (payload_of s.session d) (BySignature signed)) es [] [] (Ok u) → ShowsBySignature es s d key
 by_signature s d key signed es u is walk =
-    let asked = verified key (signed_structure signed.protected (payload_of s.session d)) signed.signature in
+    let asked = verified Failed key (signed_structure signed.protected (payload_of s.session d)) signed.signature in
     let yes = stepped (asked_of_device asked) _ es u walk in
     record {
       signed = signed;
@@ -341,7 +344,7 @@ by_signature s d key signed es u is walk =
           (from_device asked yes.front yes.value yes.before)));
     }
 
-by_mac : (s : Setting) (d : Document) (key : Point) (code : Authenticated) (es : List Exchange) (u : Unit {0})
+by_mac : (s : JudgeContext) (d : Document) (key : Point) (code : Authenticated) (es : List Exchange) (u : Unit {0})
     → device_proof d.device_auth ≡ Some (ByMac code)
     → Walks (shown_by s.session key (payload_of s.session d) (ByMac code)) es [] [] (Ok u) → ShowsByMac es s d key
 by_mac s d key code [] u is walk = absurd walk
@@ -349,28 +352,28 @@ by_mac s d key code (e ∷ es) u is walk =
     let agreement = agreed s.session (payload_of s.session d) code e.told es u walk.1 in
     record { code = code; proof = is; secret = agreement.secret; agreed = inl (walk.0, agreement.was); same = agreement.same }
 
-shown_as : (s : Setting) (d : Document) (key : Point) (proof : DeviceProof) (es : List Exchange) (u : Unit {0})
+shown_as : (s : JudgeContext) (d : Document) (key : Point) (proof : DeviceProof) (es : List Exchange) (u : Unit {0})
     → device_proof d.device_auth ≡ Some proof → Walks (shown_by s.session key (payload_of s.session d) proof) es [] [] (Ok u)
     → ShowsBySignature es s d key ⊎ ShowsByMac es s d key
 shown_as s d key (BySignature signed) es u is walk = inl (by_signature s d key signed es u is walk)
 shown_as s d key (ByMac code) es u is walk = inr (by_mac s d key code es u is walk)
 
 -- the same talk, longer
-shown_longer : (s : Setting) (d : Document) (key : Point) (es front back : List Exchange) → es ≡ front ++ back
+shown_longer : (s : JudgeContext) (d : Document) (key : Point) (es front back : List Exchange) → es ≡ front ++ back
     → ShowsBySignature back s d key ⊎ ShowsByMac back s d key → ShowsBySignature es s d key ⊎ ShowsByMac es s d key
 shown_longer s d key es front back joined (inl by) =
     inl (record { signed = by.signed; proof = by.proof; confirmed = from_back _ _ es front back joined by.confirmed })
 shown_longer s d key es front back joined (inr by) =
     inr (record { code = by.code; proof = by.proof; secret = by.secret; agreed = from_back _ _ es front back joined by.agreed; same = by.same })
 
-shown_before : (s : Setting) (d : Document) (key : Point) (es front back : List Exchange) → es ≡ front ++ back
+shown_before : (s : JudgeContext) (d : Document) (key : Point) (es front back : List Exchange) → es ≡ front ++ back
     → ShowsBySignature front s d key ⊎ ShowsByMac front s d key → ShowsBySignature es s d key ⊎ ShowsByMac es s d key
 shown_before s d key es front back joined (inl by) =
     inl (record { signed = by.signed; proof = by.proof; confirmed = from_front _ _ es front back joined by.confirmed })
 shown_before s d key es front back joined (inr by) =
     inr (record { code = by.code; proof = by.proof; secret = by.secret; agreed = from_front _ _ es front back joined by.agreed; same = by.same })
 
-is_shown : (s : Setting) (d : Document) (key : Point) (es : List Exchange) (u : Unit {0})
+is_shown : (s : JudgeContext) (d : Document) (key : Point) (es : List Exchange) (u : Unit {0})
     → Walks (shown s.session key d) es [] [] (Ok u) → ShowsBySignature es s d key ⊎ ShowsByMac es s d key
 unfolding shown
 is_shown s d key es u walk =
@@ -387,7 +390,7 @@ are_accepted_sound s d talk said walk =
     let own = stepped (issued s.roots s.moment d.doc_type d.issuer_auth) (and_shown s d) wanted.back said wanted.after in
     let device = stepped (shown s.session own.value.key d) _ own.back said own.after in
     let by = is_issued s.roots s.moment d.doc_type d.issuer_auth own.front own.value own.before in
-    subst (IsSound s d talk) (same_outcome Issued Stop own.value said device.back device.after)
+    subst (IsSound s d talk) (same_outcome IssuerStatement Stop own.value said device.back device.after)
     (record {
       requested = holds_then checks.DocNotRequested (is_type_requested s.request d.doc_type) wanted.front wanted.value wanted.before;
       signer = by.signer;

@@ -7,29 +7,29 @@ use Rattle.cert_view.specs.declared.root.Root.{Root}
 use Rattle.doc_request.specs.declared.request_draft.RequestDraft.{RequestDraft}
 use Rattle.doc_response.specs.Response.{Document}
 use Rattle.key_device.specs.Plan.{Plan, Done}
-use Rattle.key_device.specs.PlanSteps.{◌>>=◌ as ◌>>!◌, turned}
+use Rattle.key_device.specs.PlanSteps.{◌>>=◌ as ◌>>!◌, mapped}
 use Rattle.key_device.specs.declared.device_fault.DeviceFault.{DeviceFault}
 use Rattle.key_device.specs.declared.device_fault.DeviceFault.TheVariants.{Failed}
 use Rattle.verdict_model.specs.Elements.{element_verdicts, is_type_requested}
-use Rattle.verdict_model.specs.Issued.{Issued, issued}
-use Rattle.verdict_model.specs.Shown.{Session, shown}
+use Rattle.verdict_model.specs.IssuerStatement.{IssuerStatement, issued}
+use Rattle.verdict_model.specs.Shown.{SessionBinding, shown}
 use Rattle.verdict_model.specs.Steps.{Stop, Refused, Unanswered, check_that}
 use Rattle.verdict_model.specs.declared.doc_check.DocCheck.TheVariants as checks
 use Rattle.verdict_model.specs.declared.doc_verdict.DocVerdict.{DocVerdict}
 use Rattle.verdict_model.specs.declared.named.Named.{Named}
 
 -- what a response is judged by: the request that it answers, the session, the trusted roots and the moment
-pub record Setting : Type 0 where
+pub record JudgeContext : Type 0 where
   pub request : RequestDraft
-  pub session : Session
+  pub session : SessionBinding
   pub roots : List Root
   pub moment : ℤ
 
 -- what an accepted document says: the object
-abbrev pub and_shown : Setting → Document → Issued → Plan (Result Issued Stop)
+abbrev pub and_shown : JudgeContext → Document → IssuerStatement → Plan (Result IssuerStatement Stop)
 and_shown s d said = shown s.session said.key d >>! λ shows. Done (Ok said)
 
-unfoldable pub document_checks : Setting → Document → Plan (Result Issued Stop)
+unfoldable pub document_checks : JudgeContext → Document → Plan (Result IssuerStatement Stop)
 document_checks s d =
     check_that checks.DocNotRequested (is_type_requested s.request d.doc_type) >>! λ wanted.
     issued s.roots s.moment d.doc_type d.issuer_auth >>! and_shown s d
@@ -50,10 +50,10 @@ abbrev pub device_elements : Document → List Named
 device_elements d = named_in d.doc_type (cbor d.device_namespaces)
 
 -- A document that is refused has no elements; its first check that fails stands there.
-abbrev pub doc_verdict : Setting → Document → Result Issued Stop → Result DocVerdict DeviceFault
+abbrev pub doc_verdict : JudgeContext → Document → Result IssuerStatement Stop → Result DocVerdict DeviceFault
 doc_verdict s d (Ok said) = Ok (record { doc_type = d.doc_type; refused = None; elements = element_verdicts s.request said.object d.items; device_elements = device_elements d })
 doc_verdict s d (Err (Refused check)) = Ok (record { doc_type = d.doc_type; refused = Some check; elements = []; device_elements = [] })
 doc_verdict s d (Err Unanswered) = Err Failed
 
-unfoldable pub judged_document : Setting → Document → Plan (Result DocVerdict DeviceFault)
-judged_document s d = turned (doc_verdict s d) (document_checks s d)
+unfoldable pub judged_document : JudgeContext → Document → Plan (Result DocVerdict DeviceFault)
+judged_document s d = mapped (doc_verdict s d) (document_checks s d)

@@ -3,6 +3,7 @@
 use Rattle.std.specs.Prelude.{ℕ, List, [], ◌∷◌, ◌++◌, ◌&&◌, Bool, true, false, not, is_none, Option, Some, None, Result, Ok, Err}
 use Rattle.std.specs.List.{list_any}
 use Rattle.std.specs.Str.{bytes_eq}
+use Rattle.mdoc_outside.specs.OptionSteps.{unless}
 use Rattle.issuer_items.specs.Item.{Item, item}
 use Rattle.issuer_items.specs.declared.item_fault.ItemFault.{ItemFault}
 use Rattle.cbor_view.specs.Parts.{Part}
@@ -41,10 +42,6 @@ if_differs false kept made = Some (checks.DigestDiffers kept made)
 abbrev pub digest_check : List ℕ → Option (List ℕ) → Option ElementCheck
 digest_check made None = Some checks.NoDigest
 digest_check made (Some kept) = if_differs (bytes_eq kept made) kept made
-
-abbrev pub unless : Bool → ElementCheck → Option ElementCheck
-unless true check = None
-unless false check = Some check
 
 abbrev pub is_accepted : List ℕ → List ℕ → ElementVerdict → Bool
 is_accepted ns name verdict = bytes_eq verdict.ns ns && bytes_eq verdict.name name && is_none verdict.refused

@@ -1,8 +1,10 @@
 pub mod Documents
 pub mod Elements
-pub mod Issued
+pub mod IssuerStatement
 pub mod Laws
 pub mod Shown
 pub mod Soundness
 pub mod Steps
 pub mod Verdict
+pub mod Checked
+pub mod PackageLaws

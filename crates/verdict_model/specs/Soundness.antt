@@ -16,9 +16,9 @@ use Rattle.key_device.specs.declared.told.Told.{Told}
 use Rattle.key_device.specs.declared.told.Told.TheVariants.{Secret, Yes}
 use Rattle.mso_digests.specs.MadeFrom.{SomeOf}
 use Rattle.mso_digests.specs.Object.{object}
-use Rattle.verdict_model.specs.Documents.{Setting, document_checks}
+use Rattle.verdict_model.specs.Documents.{JudgeContext, document_checks}
 use Rattle.verdict_model.specs.Elements.{is_type_requested}
-use Rattle.verdict_model.specs.Issued.{Issued, Signer, device_key, issuer_auth, signer_certificate}
+use Rattle.verdict_model.specs.IssuerStatement.{IssuerStatement, Signer, device_key, issuer_auth, signer_certificate}
 use Rattle.verdict_model.specs.Shown.{BySignature, ByMac, code_of, device_proof, payload_of}
 
 -- the talk has a question with this answer
@@ -39,12 +39,12 @@ pub record Trusts (talk : List Exchange) (roots : List Root) (cert : Fields) : T
   pub confirmed : Confirms talk fields.tbs.key cert.message cert.signature
 
 -- the device of that key signed the session's payload, or its code is that of the payload under the secret told
-pub record ShowsBySignature (talk : List Exchange) (s : Setting) (d : Document) (key : Point) : Type 0 where
+pub record ShowsBySignature (talk : List Exchange) (s : JudgeContext) (d : Document) (key : Point) : Type 0 where
   pub signed : Signed
   pub proof : device_proof d.device_auth ≡ Some (BySignature signed)
   pub confirmed : Confirms talk key (signed_structure signed.protected (payload_of s.session d)) signed.signature
 
-pub record ShowsByMac (talk : List Exchange) (s : Setting) (d : Document) (key : Point) : Type 0 where
+pub record ShowsByMac (talk : List Exchange) (s : JudgeContext) (d : Document) (key : Point) : Type 0 where
   pub code : Authenticated
   pub proof : device_proof d.device_auth ≡ Some (ByMac code)
   pub secret : List ℕ
@@ -52,7 +52,7 @@ pub record ShowsByMac (talk : List Exchange) (s : Setting) (d : Document) (key :
   pub same : bytes_eq code.tag (code_of s.session (payload_of s.session d) code.protected secret) ≡ true
 
 -- What a document rests on of which the object and the device key are these.
-pub record IsSound (s : Setting) (d : Document) (talk : List Exchange) (said : Issued) : Type 0 where
+pub record IsSound (s : JudgeContext) (d : Document) (talk : List Exchange) (said : IssuerStatement) : Type 0 where
   pub requested : is_type_requested s.request d.doc_type ≡ true
   pub signer : Signer
   pub auth : issuer_auth d.issuer_auth ≡ Some signer.auth
@@ -69,5 +69,5 @@ pub record IsSound (s : Setting) (d : Document) (talk : List Exchange) (said : I
 -- secret under which the device's code is that of the payload.
 abbrev pub AreAcceptedSound : Type 0
 AreAcceptedSound =
-    (s : Setting) (d : Document) (talk : List Exchange) (said : Issued)
+    (s : JudgeContext) (d : Document) (talk : List Exchange) (said : IssuerStatement)
     → Walks (document_checks s d) talk [] [] (Ok said) → IsSound s d talk said

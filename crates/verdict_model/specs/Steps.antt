@@ -2,7 +2,7 @@
 -- check is reached.
 use Rattle.std.specs.Prelude.{Bool, true, false, Option, Some, None, Result, Ok, Err}
 use Rattle.key_device.specs.Plan.{Plan, Done}
-use Rattle.key_device.specs.PlanSteps.{turned}
+use Rattle.key_device.specs.PlanSteps.{mapped}
 use Rattle.key_device.specs.declared.device_fault.DeviceFault.{DeviceFault}
 use Rattle.verdict_model.specs.declared.doc_check.DocCheck.{DocCheck}
 
@@ -27,4 +27,4 @@ or_unanswered (Err fault) = Err Unanswered
 
 -- what the device is asked
 abbrev pub asked_of_device : {A : Type 0} → Plan (Result A DeviceFault) → Plan (Result A Stop)
-asked_of_device plan = turned or_unanswered plan
+asked_of_device plan = mapped or_unanswered plan

@@ -11,7 +11,7 @@ use Rattle.key_device.specs.Plan.{Plan, Done}
 use Rattle.key_device.specs.PlanSteps.{◌>>=◌, each}
 use Rattle.key_device.specs.declared.device_fault.DeviceFault.{DeviceFault}
 use Rattle.std.specs.Prelude.{Result, Ok}
-use Rattle.verdict_model.specs.Documents.{Setting, judged_document}
+use Rattle.verdict_model.specs.Documents.{JudgeContext, judged_document}
 use Rattle.verdict_model.specs.Elements.{is_accepted}
 use Rattle.verdict_model.specs.declared.doc_verdict.DocVerdict.{DocVerdict}
 use Rattle.verdict_model.specs.declared.named.Named.{Named}
@@ -40,5 +40,5 @@ unanswered request documents = filter (λ (element : Named). not (is_answered do
 abbrev pub verdict_on : RequestDraft → List DocVerdict → Verdict
 verdict_on request documents = record { documents = documents; unanswered = unanswered request documents }
 
-unfoldable pub verdict : Setting → List Document → Plan (Result Verdict DeviceFault)
+unfoldable pub verdict : JudgeContext → List Document → Plan (Result Verdict DeviceFault)
 verdict s documents = each (judged_document s) documents >>= λ judged. Done (Ok (verdict_on s.request judged))

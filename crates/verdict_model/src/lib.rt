@@ -1,6 +1,5 @@
-//! What a reader believes of a response (ISO/IEC 18013-5, 9.1.2, 9.1.3 and 9.3.1): the verdict, its checks in their
-//! order, and the questions to the reader's key device. Definitions and their laws alone; the judge that follows
-//! them stands above.
+//! Definitions and laws alone: what a reader believes of a response, and what is found of a package before it is taken into a
+//! store (ISO/IEC 18013-5, 9.1.2, 9.1.3 and 9.3.1), as plans of questions to the reader's key device.
 #![tactic(auto)]
 
 mod doc_check;
@@ -9,6 +8,8 @@ mod element_check;
 mod element_verdict;
 mod laws;
 mod named;
+mod package_laws;
+mod package_verdict;
 mod sharing;
 mod verdict;
 
@@ -18,5 +19,7 @@ pub use element_check::ElementCheck;
 pub use element_verdict::ElementVerdict;
 pub use laws::{accepted_is_requested, accepted_is_signed, accepted_is_sound};
 pub use named::Named;
+pub use package_laws::accepted_copy_is_covered;
+pub use package_verdict::PackageVerdict;
 pub use sharing::types_are_send_and_sync;
 pub use verdict::Verdict;

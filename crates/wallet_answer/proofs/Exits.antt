@@ -13,20 +13,20 @@ use Rattle.doc_request.specs.declared.request_fault.RequestFault.{RequestFault}
 use Rattle.doc_response.specs.Draft as draft
 use Rattle.doc_response.specs.declared.device_auth.DeviceAuth.{DeviceAuth}
 use Rattle.key_device.specs.Plan.{Plan, Done, Follows}
-use Rattle.key_device.specs.PlanSteps.{◌>>=◌, each, turned}
+use Rattle.key_device.specs.PlanSteps.{◌>>=◌, each, mapped}
 use Rattle.key_device.specs.declared.device_fault.DeviceFault.{DeviceFault}
 use Rattle.key_device.specs.declared.exchange.Exchange.{Exchange}
 use Rattle.key_device.proofs.PlanLemmas.{cut_short, ended, halted, then_more, unasked}
-use Rattle.key_device.proofs.PlanStepLemmas.{turned_came, turned_cut}
+use Rattle.key_device.proofs.PlanStepLemmas.{mapped_came, mapped_cut}
 use Rattle.session_seal.specs.Wallet.{WalletSession}
-use Rattle.wallet_choice.specs.ChoiceView.{choice_seen}
-use Rattle.wallet_choice.specs.declared.choice.Choice as made_choice
+use Rattle.wallet_answer.specs.ChoiceView.{choice_seen}
+use Rattle.wallet_answer.specs.declared.released_document.ReleasedDocument as made_choice
 use Rattle.wallet_model.specs.Answer.{Answer, answer, answer_asked, answer_request, answer_selections, answer_to_readers, answer_with, authenticated, document_with, known_readers, response_with, without_items}
-use Rattle.wallet_model.specs.Released.{Choice, Selection, choices, types_of_nothing}
+use Rattle.wallet_model.specs.Released.{ReleasedDocument, Selection, choices, types_of_nothing}
 use Rattle.wallet_model.specs.Setup.{Setup}
 use Rattle.wallet_model.specs.declared.released_at.ReleasedAt.{ReleasedAt}
-use Rattle.wallet_questions.specs.KnownView.{known_of}
-use Rattle.wallet_response.specs.Documents.{documents_with, response_of}
+use Rattle.wallet_answer.specs.KnownView.{known_of}
+use Rattle.wallet_answer.specs.Documents.{documents_with, response_of}
 use Rattle.wallet_answer.specs.AnswerView.{answer_of, answer_seen}
 use Rattle.wallet_answer.specs.Authenticated.{authenticated_choice}
 use Rattle.wallet_answer.specs.Places.{places_in}
@@ -106,7 +106,7 @@ module _ (W : Setup) (session : WalletSession) (docs : List DocAsk) (documents :
 
 -- ---- the device's authentications
 
-documents-snoc : (list : List Choice) (auths : List DeviceAuth) (choice : Choice) (auth : DeviceAuth) → length auths ≡ length list
+documents-snoc : (list : List ReleasedDocument) (auths : List DeviceAuth) (choice : ReleasedDocument) (auth : DeviceAuth) → length auths ≡ length list
     → documents_with (list ++ choice ∷ []) (auths ++ auth ∷ []) ≡ documents_with list auths ++ document_with choice auth ∷ []
 documents-snoc [] [] choice auth same = refl
 documents-snoc [] (a ∷ auths) choice auth same = absurd (omega arith)
@@ -115,18 +115,18 @@ documents-snoc (c ∷ list) (a ∷ auths) choice auth same =
     ap (λ (later : List draft.Document). document_with c a ∷ later) (documents-snoc list auths choice auth (omega arith))
 
 -- one authentication more
-pub documents_more : {X : Type 0} (seen : X → Choice) (xs : List X) (i : ℕ) (x : X) (auths : List DeviceAuth) (auth : DeviceAuth)
+pub documents_more : {X : Type 0} (seen : X → ReleasedDocument) (xs : List X) (i : ℕ) (x : X) (auths : List DeviceAuth) (auth : DeviceAuth)
     → i < length xs → length auths ≡ i → x ≡ get_or xs i x
     → documents_with (map seen (take (i + 1) xs)) (auths ++ auth ∷ []) ≡ documents_with (map seen (take i xs)) auths ++ document_with (seen x) auth ∷ []
 documents_more {X} seen xs i x auths auth within counted at =
     let taken : length auths ≡ length (map seen (take i xs)) = counted ∙ sym (length-map (take i xs) seen ∙ length-take-le i xs (omega arith)) in
-    ap (λ (list : List Choice). documents_with list (auths ++ auth ∷ [])) (map_more seen xs i x within)
+    ap (λ (list : List ReleasedDocument). documents_with list (auths ++ auth ∷ [])) (map_more seen xs i x within)
     ∙ ap (λ (y : X). documents_with (map seen (take i xs) ++ seen y ∷ []) (auths ++ auth ∷ [])) (sym at)
     ∙ documents-snoc (map seen (take i xs)) auths (seen x) auth taken
 
 -- ---- the answer of what is selected
 
-module _ (session : WalletSession) (list : List Selection) (xs : List made_choice.Choice) (are : map choice_seen xs ≡ choices list) where
+module _ (session : WalletSession) (list : List Selection) (xs : List made_choice.ReleasedDocument) (are : map choice_seen xs ≡ choices list) where
   asked_choices : each (authenticated_choice session) xs ≡ each (authenticated session) (choices list)
   asked_choices = each_seen (authenticated session) choice_seen xs ∙ ap (each (authenticated session)) are
 
@@ -137,15 +137,15 @@ module _ (session : WalletSession) (list : List Selection) (xs : List made_choic
   unfolding answer_selections
   selected_came old new documents result first text places = by result text places
     where
-      came : Follows (turned (answer_with list) (each (authenticated session) (choices list))) old new (Some (answer_with list documents))
+      came : Follows (mapped (answer_with list) (each (authenticated session) (choices list))) old new (Some (answer_with list documents))
       came =
-          turned_came (answer_with list)
+          mapped_came (answer_with list)
           (subst (λ (p : Plan (Result (List draft.Document) DeviceFault)). Follows p old new (Some documents)) asked_choices first)
 
       by : (r : Result made.Answer Memory) → IfOk r (λ a. a.text ≡ response_with list documents) → IfOk r (λ a. a.places.items ≡ places_in (map choice_seen xs))
-          → Follows (turned (answer_with list) (each (authenticated session) (choices list))) old new (answer_of r)
+          → Follows (mapped (answer_with list) (each (authenticated session) (choices list))) old new (answer_of r)
       by (Ok a) is at =
-          subst (λ (found : Answer). Follows (turned (answer_with list) (each (authenticated session) (choices list))) old new (Some found))
+          subst (λ (found : Answer). Follows (mapped (answer_with list) (each (authenticated session) (choices list))) old new (Some found))
           (sym (ap (λ (bytes : List ℕ). record { text = bytes; places = a.places.items }) is
           ∙ ap (λ (where_at : List ReleasedAt). record { text = response_with list documents; places = where_at }) (at ∙ ap places_in are)))
           came
@@ -154,11 +154,11 @@ module _ (session : WalletSession) (list : List Selection) (xs : List made_choic
   pub selected_cut : (old new : List Exchange) → Follows (each (authenticated_choice session) xs) old new None → Follows (answer_selections session list) old new None
   unfolding answer_selections
   selected_cut old new first =
-      turned_cut (answer_with list)
+      mapped_cut (answer_with list)
       (subst (λ (p : Plan (Result (List draft.Document) DeviceFault)). Follows p old new None) asked_choices first)
 
 -- the response of what is released, by its types of which nothing is
-pub full_text : (list : List Selection) (cs : List Choice) (auths : List DeviceAuth) (types : List (List ℕ)) (result : Result made.Answer Memory)
+pub full_text : (list : List Selection) (cs : List ReleasedDocument) (auths : List DeviceAuth) (types : List (List ℕ)) (result : Result made.Answer Memory)
     → types ≡ types_of_nothing list → IfOk result (λ a. a.text ≡ response_of cs auths types)
     → IfOk result (λ a. a.text ≡ response_with list (Ok (documents_with cs auths)))
 full_text list cs auths types (Ok a) are is = is ∙ ap (λ (of : List (List ℕ)). response_of cs auths of) are

@@ -2,3 +2,10 @@ pub mod Counts
 pub mod Exits
 pub mod Nested
 pub mod Sound
+pub mod FoundItems
+pub mod DistinctWishes
+pub mod ChoiceLemmas
+pub mod PlaceLemmas
+pub mod SelectionLemmas
+pub mod DraftLemmas
+pub mod ListLemmas

@@ -8,14 +8,14 @@ use Rattle.doc_request.specs.Draft.{are_distinct}
 use Rattle.doc_store.specs.Held.{document_place}
 use Rattle.doc_store.specs.Store as stores
 use Rattle.doc_store.specs.Store.{Copy}
-use Rattle.store_laws.specs.Nested.{IsNested, IsNestedCopy, IsNestedDocument}
-use Rattle.wallet_model.specs.Released.{Choice, ReleasedItem, ShownCopy, choice, choice_of, choice_with, choices, refused, released, selections, shown_copy, wishes_of}
+use Rattle.store_write.specs.Nested.{IsNested, IsNestedCopy, IsNestedDocument}
+use Rattle.wallet_model.specs.Released.{ReleasedDocument, ReleasedItem, ShownCopy, choice, choice_of, choice_with, choices, refused, released, selections, shown_copy, wishes_of}
 use Rattle.wallet_model.specs.Setup.{Setup}
-use Rattle.wallet_response.specs.Documents.{IsSound}
+use Rattle.wallet_answer.specs.Documents.{IsSound}
 use Rattle.wallet_answer.proofs.Sound.{IsAnswered, all_answered}
 
 -- the issuer's signature of a document is no deeper than in the file of a store
-abbrev IsNestedChoice : Choice → Type 0
+abbrev IsNestedChoice : ReleasedDocument → Type 0
 IsNestedChoice choice = IsNested 27 choice.issuer_auth
 
 abbrev IsNestedShown : ShownCopy → Type 0
@@ -70,12 +70,12 @@ module _ (W : Setup) (nested : AllByRecursion IsNestedDocument W.store) where
   all_nested (asked ∷ others) [] = tt
   all_nested (asked ∷ others) (reader ∷ readers) = by (choice W reader asked) (choice_nested reader asked) (all_nested others readers)
     where
-      by : (found : Option Choice) → IfSome found IsNestedChoice → AllByRecursion IsNestedChoice (choices (selections W others readers))
+      by : (found : Option ReleasedDocument) → IfSome found IsNestedChoice → AllByRecursion IsNestedChoice (choices (selections W others readers))
           → AllByRecursion IsNestedChoice (cons_option found (choices (selections W others readers)))
       by None one later = later
       by (Some c) one later = (one, later)
 
-all_sound : (choices : List Choice) → AllByRecursion IsNestedChoice choices → AllByRecursion IsAnswered choices → AllByRecursion IsSound choices
+all_sound : (choices : List ReleasedDocument) → AllByRecursion IsNestedChoice choices → AllByRecursion IsAnswered choices → AllByRecursion IsSound choices
 all_sound [] nested answered = tt
 all_sound (choice ∷ choices) nested answered = (
   record {
@@ -88,11 +88,11 @@ all_sound (choice ∷ choices) nested answered = (
 )
 
 -- a response has room for what is selected of a store
-pub sound_selected : (W : Setup) (documents : List Document) (readers : List (Option (List ℕ))) (list : List Choice)
+pub sound_selected : (W : Setup) (documents : List Document) (readers : List (Option (List ℕ))) (list : List ReleasedDocument)
     → AllByRecursion IsNestedDocument W.store
     → list ≡ choices (selections W documents readers)
     → AllByRecursion (λ (document : Document). are_distinct document.wishes ≡ true) documents
     → AllByRecursion IsSound list
 sound_selected W documents readers list nested are distinct =
-    subst (λ (cs : List Choice). AllByRecursion IsSound cs) (sym are)
+    subst (λ (cs : List ReleasedDocument). AllByRecursion IsSound cs) (sym are)
     (all_sound (choices (selections W documents readers)) (all_nested W nested documents readers) (all_answered W documents readers distinct))

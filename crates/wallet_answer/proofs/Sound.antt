@@ -16,11 +16,11 @@ use Rattle.doc_store.specs.Item.{if_item, item}
 use Rattle.doc_store.specs.Store.{Copy}
 use Rattle.issuer_items.specs.Item as items
 use Rattle.issuer_items.specs.declared.item_fault.ItemFault.{ItemFault}
-use Rattle.wallet_model.specs.Released.{Choice, ReleasedItem, ShownCopy, choice, choice_of, choice_with, choices, is_refused, item_of, name_of, named, refused, released, selections, shown_copy, wish_for, wishes_of}
+use Rattle.wallet_model.specs.Released.{ReleasedDocument, ReleasedItem, ShownCopy, choice, choice_of, choice_with, choices, is_refused, item_of, name_of, named, refused, released, selections, shown_copy, wish_for, wishes_of}
 use Rattle.wallet_model.specs.Setup.{Setup}
-use Rattle.wallet_response.specs.Documents.{AreFresh, IsIssued}
+use Rattle.wallet_answer.specs.Documents.{AreFresh, IsIssued}
 
-pub record IsAnswered (choice : Choice) : Type 0 where
+pub record IsAnswered (choice : ReleasedDocument) : Type 0 where
   pub items : AllByRecursion IsIssued choice.answered.items
   pub missing : AreFresh choice.answered.missing
 
@@ -164,7 +164,7 @@ all_answered W (asked ∷ others) [] distinct = tt
 all_answered W (asked ∷ others) (reader ∷ readers) distinct =
     by (choice W reader asked) (choice_answered W reader asked distinct.0) (all_answered W others readers distinct.1)
   where
-    by : (found : Option Choice) → IfSome found IsAnswered → AllByRecursion IsAnswered (choices (selections W others readers))
+    by : (found : Option ReleasedDocument) → IfSome found IsAnswered → AllByRecursion IsAnswered (choices (selections W others readers))
         → AllByRecursion IsAnswered (cons_option found (choices (selections W others readers)))
     by None one later = later
     by (Some c) one later = (one, later)

@@ -1,3 +1,12 @@
 pub mod AnswerView
 pub mod Authenticated
 pub mod Places
+pub mod Found
+pub mod Distinct
+pub mod ChoiceView
+pub mod Progress
+pub mod Selecting
+pub mod SetupView
+pub mod Texts
+pub mod KnownView
+pub mod Documents

@@ -3,18 +3,18 @@
 ghost use Rattle.std.specs.Prelude.{◌≡◌, ◌≤◌, IfOk, length, map};
 ghost use Rattle.std.specs.List.{AllByRecursion};
 ghost use Rattle.wallet_answer.specs.Places.{places_in};
-ghost use Rattle.wallet_choice.specs.ChoiceView.{choice_seen};
-ghost use Rattle.wallet_choice.specs.Texts.{name_seen};
+ghost use Rattle.wallet_answer.specs.ChoiceView.{choice_seen};
+ghost use Rattle.wallet_answer.specs.Texts.{name_seen};
 ghost use Rattle.wallet_model.specs.Answer.{status_response, without_items};
-ghost use Rattle.wallet_response.specs.Documents.{IsSound, response_of};
+ghost use Rattle.wallet_answer.specs.Documents.{IsSound, response_of};
 
 use crate::places::released_places;
+use crate::release::Release;
+use crate::responses::{full_response, status_response};
 use doc_response::DeviceAuth;
 use mdoc_outside::{Memory, Octets};
 use std::alloc::Global;
-use wallet_choice::Selected;
 use wallet_model::ReleasedAt;
-use wallet_response::{full_response, status_response};
 
 /// The status general error (ISO/IEC 18013-5, table 8).
 pub(crate) const GENERAL_ERROR: u64 = 10;
@@ -43,7 +43,7 @@ impl Answer {
     /// The response of what is released, by the device's authentications of the documents in their order.
     pub(crate) fn full(
         alloc: Global,
-        selected: Selected<'_>,
+        selected: Release<'_>,
         auths: &[DeviceAuth],
     ) -> Result<Answer, Memory>
         requires sound { AllByRecursion IsSound (map choice_seen selected.choices.items) }
@@ -52,18 +52,18 @@ impl Answer {
         ensures places { IfOk result (λ a. a.places.items ≡ places_in (map choice_seen selected.entry.choices.items)) }
     {
         let text = full_response(alloc, &selected, auths)?;
-        let Selected { choices, .. } = selected;
+        let Release { choices, .. } = selected;
         let places = released_places(alloc, choices)?;
         Ok(Answer { text, places })
     }
 
     /// A general error in place of that response, where the device failed.
-    pub(crate) fn refused(alloc: Global, selected: Selected<'_>) -> Result<Answer, Memory>
+    pub(crate) fn refused(alloc: Global, selected: Release<'_>) -> Result<Answer, Memory>
         ensures text { IfOk result (λ a. a.text ≡ status_response 10) }
         ensures places { IfOk result (λ a. a.places.items ≡ places_in (map choice_seen selected.entry.choices.items)) }
     {
         let text = status_response(alloc, GENERAL_ERROR)?;
-        let Selected { choices, .. } = selected;
+        let Release { choices, .. } = selected;
         let places = released_places(alloc, choices)?;
         Ok(Answer { text, places })
     }

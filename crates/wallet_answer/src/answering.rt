@@ -11,25 +11,26 @@ ghost use Rattle.key_device.specs.Gave.{Gave};
 ghost use Rattle.key_device.specs.Plan.{Follows};
 ghost use Rattle.key_device.specs.Recording.{talk};
 ghost use Rattle.wallet_answer.specs.AnswerView.{answer_of};
-ghost use Rattle.wallet_choice.specs.ChoiceView.{choice_seen};
-ghost use Rattle.wallet_choice.specs.SetupView.{setup_of};
-ghost use Rattle.wallet_choice.specs.Texts.{name_seen, reader_seen};
+ghost use Rattle.wallet_answer.specs.ChoiceView.{choice_seen};
+ghost use Rattle.wallet_answer.specs.SetupView.{setup_of};
+ghost use Rattle.wallet_answer.specs.Texts.{name_seen, reader_seen};
 ghost use Rattle.wallet_model.specs.Answer.{answer, answer_request, answer_selections};
 ghost use Rattle.wallet_model.specs.Released.{choices, selections, types_of_nothing};
-ghost use Rattle.wallet_response.specs.Documents.{IsSound};
+ghost use Rattle.wallet_answer.specs.Documents.{IsSound};
 
 use crate::Answer;
 use crate::answered::GENERAL_ERROR;
 use crate::authentications::authenticate_all;
 use crate::nesting::parts_are_nested;
+use crate::readers::known_readers;
+use crate::release::{Release, release_documents};
+use crate::setup::WalletSetup;
 use cbor_view::View;
 use doc_request::{DocAsk, Request};
 use key_device::{DeviceFault, KeyDevice, Recorder};
 use mdoc_outside::Memory;
 use session_seal::WalletAsked;
 use std::alloc::Global;
-use wallet_choice::{Selected, WalletSetup, select};
-use wallet_questions::known_readers;
 
 /// The statuses CBOR decoding error and CBOR validation error (ISO/IEC 18013-5, table 8).
 const DECODING_ERROR: u64 = 11;
@@ -54,7 +55,7 @@ fn select_sound<'a>(
     setup: &WalletSetup<'a>,
     documents: &[DocAsk<'a>],
     readers: &[Option<&str>],
-) -> Result<Selected<'a>, Memory>
+) -> Result<Release<'a>, Memory>
     requires each { length readers.now ≡ length documents.now }
     requires distinct { AllByRecursion (λ (document : Document). are_distinct document.wishes ≡ true) (map document_seen documents.now) }
     ensures choices { IfOk result (λ s. map choice_seen s.choices.items ≡ choices (selections (setup_of setup.now) (map document_seen documents.now) (map reader_seen readers.now))) }
@@ -62,7 +63,7 @@ fn select_sound<'a>(
     ensures sound { IfOk result (λ s. AllByRecursion IsSound (map choice_seen s.choices.items)) }
 {
     parts_are_nested(setup.store);
-    select(alloc, setup, documents, readers)
+    release_documents(alloc, setup, documents, readers)
 }
 
 /// The answer to a request whose readers are known.

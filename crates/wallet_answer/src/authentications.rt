@@ -1,32 +1,33 @@
 //! The device's authentications of the documents of which something is released.
 
 ghost use Rattle.std.specs.Prelude.{◌≡◌, IfOk, length, map};
-ghost use Rattle.doc_request.specs.Known.{came_to};
+ghost use Rattle.key_device.specs.Ends.{came_to};
 ghost use Rattle.key_device.specs.Gave.{Gave};
 ghost use Rattle.key_device.specs.Plan.{Follows};
 ghost use Rattle.key_device.specs.PlanSteps.{each};
 ghost use Rattle.key_device.specs.Recording.{talk};
+ghost use Rattle.key_device.specs.declared.device_fault.DeviceFault.TheVariants.{Failed};
 ghost use Rattle.wallet_answer.specs.Authenticated.{authenticated_choice};
-ghost use Rattle.wallet_choice.specs.ChoiceView.{choice_seen};
+ghost use Rattle.wallet_answer.specs.ChoiceView.{choice_seen};
 ghost use Rattle.wallet_model.specs.Answer.{authenticated, document_with};
-ghost use Rattle.wallet_response.specs.Documents.{documents_with};
+ghost use Rattle.wallet_answer.specs.Documents.{documents_with};
 
+use crate::authentication::device_auth;
+use crate::released_document::ReleasedDocument;
 use doc_response::DeviceAuth;
 use key_device::{DeviceFault, KeyDevice, Recorder};
 use session_seal::WalletAsked;
 use std::alloc::Global;
-use wallet_choice::Choice;
-use wallet_questions::device_auth;
 
 /// The device's authentication of a document (ISO/IEC 18013-5, 9.1.3.4), with which it is a part of the response.
 #[tactic(auto, using(key_device::proofs::PlanLemmas::exits), unfolding(wallet_model::specs::Answer::authenticated))]
 fn authenticate<D: KeyDevice>(
     alloc: Global,
     session: &WalletAsked,
-    choice: &Choice<'_>,
+    choice: &ReleasedDocument<'_>,
     device: &mut Recorder<D>,
 ) -> Result<DeviceAuth, DeviceFault>
-    ensures asked { Follows (authenticated session.now (choice_seen choice.now)) (talk device.old) (talk device.new) (came_to (document_with (choice_seen choice.now)) result) }
+    ensures asked { Follows (authenticated session.now (choice_seen choice.now)) (talk device.old) (talk device.new) (came_to Failed (document_with (choice_seen choice.now)) result) }
     ensures gave { Gave D.gives D.unasked D.faults device.old device.new }
 {
     match device_auth(alloc, session, choice, device) {
@@ -41,10 +42,10 @@ fn authenticate<D: KeyDevice>(
 pub(crate) fn authenticate_all<D: KeyDevice>(
     alloc: Global,
     session: &WalletAsked,
-    choices: &[Choice<'_>],
+    choices: &[ReleasedDocument<'_>],
     device: &mut Recorder<D>,
 ) -> Result<Vec<DeviceAuth>, DeviceFault>
-    ensures asked { Follows (each (authenticated_choice session.now) choices.now) (talk device.old) (talk device.new) (came_to (λ v. documents_with (map choice_seen choices.now) v.items) result) }
+    ensures asked { Follows (each (authenticated_choice session.now) choices.now) (talk device.old) (talk device.new) (came_to Failed (λ v. documents_with (map choice_seen choices.now) v.items) result) }
     ensures each { IfOk result (λ v. length v.items ≡ length choices.now) }
     ensures gave { Gave D.gives D.unasked D.faults device.old device.new }
 {

@@ -3,10 +3,10 @@
 ghost use Rattle.std.specs.List.{AllByRecursion};
 ghost use Rattle.cbor_view.specs.Spelling.{AreBytes};
 ghost use Rattle.doc_store.specs.StoreView.{documents_in};
-ghost use Rattle.store_laws.specs.Nested.{IsNestedDocument};
+ghost use Rattle.store_write.specs.Nested.{IsNestedDocument};
 
 use doc_store::Store;
-use store_laws::stored_parts_are_nested;
+use store_write::stored_parts_are_nested;
 
 /// A slice holds bytes. It does nothing.
 fn are_bytes(bytes: &[u8])

@@ -1,6 +1,15 @@
-pub mod Start
+pub mod StartLemmas
 pub mod Unasked
 pub mod Rounds
 pub mod Takes
-pub mod Exits
+pub mod NodeExits
 pub mod SentLemmas
+pub mod StartExits
+pub mod Followed
+pub mod ShortAnswer
+pub mod ReplyExits
+pub mod Opened
+pub mod Talks
+pub mod FirstRound
+pub mod NextRound
+pub mod Within

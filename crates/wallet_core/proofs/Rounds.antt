@@ -15,8 +15,8 @@ use Rattle.wallet_model.specs.Answer.{answer}
 use Rattle.wallet_model.specs.Round.{WalletRound, later_opened, round, round_of, session_at}
 use Rattle.wallet_model.specs.Setup.{Setup}
 use Rattle.wallet_model.specs.Wallet.{WalletRounds}
-use Rattle.wallet_round.specs.Rounds.{first_plan, next_plan}
-use Rattle.wallet_steps.specs.Taking.{rounds_with, with_round}
+use Rattle.wallet_core.specs.Rounds.{first_plan, next_plan}
+use Rattle.wallet_model.specs.Taking.{rounds_with, with_round}
 
 -- ---- the first message
 

@@ -4,7 +4,7 @@ use Rattle.std.proofs.lemmas.Grind.{flat_map-append}
 use Rattle.std.specs.List.{flat_map}
 use Rattle.ble_fragments.specs.Cut.{fragments_of}
 use Rattle.wallet_model.specs.Wallet.{replies}
-use Rattle.wallet_steps.specs.Taking.{in_list}
+use Rattle.wallet_model.specs.Taking.{in_list}
 use Rattle.wallet_core.specs.Sending.{SentGrows}
 
 pub grows : SentGrows

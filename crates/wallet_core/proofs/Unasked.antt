@@ -4,19 +4,19 @@ use Rattle.std.proofs.lemmas.List.{append_cancel_left}
 use Rattle.std.specs.List.{flat_map}
 use Rattle.doc_request.specs.Asked.{Asked, Document, Documents, NoRequest, NotCbor, asked}
 use Rattle.key_device.specs.Plan.{Plan, Done, Then, Other, Draw, Follows, Walks, bind}
-use Rattle.key_device.specs.PlanSteps.{each, turned}
+use Rattle.key_device.specs.PlanSteps.{each, mapped}
 use Rattle.key_device.specs.declared.device_fault.DeviceFault.{DeviceFault}
 use Rattle.key_device.specs.declared.exchange.Exchange.{Exchange}
 use Rattle.session_seal.specs.Wallet.{WalletOpened, WalletSession, WalletStart, wallet_establishes, wallet_opens}
 use Rattle.wallet_model.specs.Answer.{Answer, answer, answer_asked, answer_request, answer_selections, answer_to_readers, answer_with, authenticated, device_auth, known_readers, mac_auth, signed_auth}
-use Rattle.wallet_model.specs.Released.{Choice, Selection, choices, selections}
+use Rattle.wallet_model.specs.Released.{ReleasedDocument, Selection, choices, selections}
 use Rattle.wallet_model.specs.Round.{WalletRound, round_of}
 use Rattle.wallet_model.specs.Setup.{Setup}
 use Rattle.wallet_model.specs.Stands as states
 use Rattle.wallet_model.specs.Stands.{NodeState}
-use Rattle.wallet_reply.specs.RoundView.{round_seen}
-use Rattle.wallet_reply.specs.declared.round.Round.{Round}
-use Rattle.wallet_round.specs.Rounds.{first_plan, next_plan}
+use Rattle.wallet_core.specs.RoundView.{round_seen}
+use Rattle.wallet_core.specs.declared.round.Round.{Round}
+use Rattle.wallet_core.specs.Rounds.{first_plan, next_plan}
 use Rattle.wallet_core.specs.Answering.{IsRoundOf}
 
 -- a fact of the outcome that a plan comes to with no question asked
@@ -62,7 +62,7 @@ abbrev NoPlaces : Answer → Type 0
 NoPlaces given = given.places ≡ []
 
 -- a document of which something is released is authenticated by a question
-device_asks : (session : WalletSession) (c : Choice) → UnlessAsked Nothing (device_auth session c)
+device_asks : (session : WalletSession) (c : ReleasedDocument) → UnlessAsked Nothing (device_auth session c)
 unfolding device_auth
 device_asks session c = by c.uses_mac
   where
@@ -70,19 +70,19 @@ device_asks session c = by c.uses_mac
     by true = tt
     by false = tt
 
-authenticated_asks : (session : WalletSession) (c : Choice) → UnlessAsked Nothing (authenticated session c)
+authenticated_asks : (session : WalletSession) (c : ReleasedDocument) → UnlessAsked Nothing (authenticated session c)
 unfolding authenticated
 authenticated_asks session c = unless_bind Nothing Nothing (device_auth session c) _ (device_asks session c) (λ auth no. absurd no)
 
-each_asks : (session : WalletSession) (c : Choice) (cs : List Choice) → UnlessAsked Nothing (each (authenticated session) (c ∷ cs))
+each_asks : (session : WalletSession) (c : ReleasedDocument) (cs : List ReleasedDocument) → UnlessAsked Nothing (each (authenticated session) (c ∷ cs))
 each_asks session c cs = unless_bind Nothing Nothing (authenticated session c) _ (authenticated_asks session c) (λ document no. absurd no)
 
 selections_unasked : (session : WalletSession) (list : List Selection) → UnlessAsked NoPlaces (answer_selections session list)
 unfolding answer_selections
 selections_unasked session list = by (choices list) refl
   where
-    by : (chosen : List Choice) → choices list ≡ chosen → UnlessAsked NoPlaces (turned (answer_with list) (each (authenticated session) chosen))
-    by [] is = ap (λ (found : List Choice). flat_map (λ (c : Choice). c.places) found) is
+    by : (chosen : List ReleasedDocument) → choices list ≡ chosen → UnlessAsked NoPlaces (mapped (answer_with list) (each (authenticated session) chosen))
+    by [] is = ap (λ (found : List ReleasedDocument). flat_map (λ (c : ReleasedDocument). c.places) found) is
     by (c ∷ cs) is = unless_bind Nothing NoPlaces (each (authenticated session) (c ∷ cs)) _ (each_asks session c cs) (λ documents no. absurd no)
 
 readers_unasked : (W : Setup) (session : WalletSession) (documents : List Document) (readers : Result (List (Option (List ℕ))) DeviceFault)

@@ -7,12 +7,12 @@ use Rattle.session_seal.specs.Wallet.{WalletSession, WalletStart}
 use Rattle.wallet_model.specs.Setup.{Setup}
 use Rattle.wallet_model.specs.Stands as states
 use Rattle.wallet_model.specs.Stands.{Node, NodeState}
-use Rattle.wallet_reply.specs.RoundView.{end_after}
-use Rattle.wallet_reply.specs.declared.round.Round.{Round}
-use Rattle.wallet_round.specs.Rounds.{IsFirstRound, IsNextRound}
-use Rattle.wallet_round.specs.declared.unanswered.Unanswered.{Unanswered}
-use Rattle.wallet_round.specs.declared.unanswered.Unanswered.TheVariants.{Back, Spent}
-use Rattle.wallet_steps.specs.Taking.{node_with}
+use Rattle.wallet_core.specs.RoundView.{end_after}
+use Rattle.wallet_core.specs.declared.round.Round.{Round}
+use Rattle.wallet_core.specs.Rounds.{IsFirstRound, IsNextRound}
+use Rattle.wallet_core.specs.declared.want_of_memory.WantOfMemory.{WantOfMemory}
+use Rattle.wallet_core.specs.declared.want_of_memory.WantOfMemory.TheVariants.{Back, Spent}
+use Rattle.wallet_model.specs.Taking.{node_with}
 use Rattle.wallet_core.specs.StateView.{after_state}
 use Rattle.wallet_core.specs.declared.reply.Reply.{Reply}
 
@@ -44,15 +44,15 @@ Answers node m old new joined (Ok reply) after = HasAnswered node m old new join
 Answers node m old new joined (Err wanting) after = IsLost node old new after
 
 -- the state that want of memory leaves
-abbrev pub first_left : Unanswered WalletStart → NodeState
+abbrev pub first_left : WantOfMemory WalletStart → NodeState
 first_left (Back start) = states.Engaged start
 first_left Spent = states.Spent
 
-abbrev pub next_left : Unanswered WalletSession → NodeState
+abbrev pub next_left : WantOfMemory WalletSession → NodeState
 next_left (Back session) = states.Open session
 next_left Spent = states.Spent
 
 -- a session that is handed back is at the place of a later message
-abbrev pub IsPlaced : Unanswered WalletSession → Type 0
+abbrev pub IsPlaced : WantOfMemory WalletSession → Type 0
 IsPlaced (Back session) = (1 < session.place) × (session.place ≤ 1000)
 IsPlaced Spent = Unit {0}

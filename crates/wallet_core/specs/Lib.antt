@@ -1,6 +1,10 @@
 pub mod StateView
 pub mod NodeView
-pub mod Starting
+pub mod NodeStarting
 pub mod Answering
 pub mod Taking
 pub mod Sending
+pub mod Ends
+pub mod Starting
+pub mod RoundView
+pub mod Rounds

@@ -1,5 +1,5 @@
 -- What contracts see of a node.
-use Rattle.wallet_choice.specs.SetupView.{setup_of}
+use Rattle.wallet_answer.specs.SetupView.{setup_of}
 use Rattle.wallet_model.specs.Stands.{Node, NodeState}
 use Rattle.wallet_core.specs.StateView.{state_seen}
 use Rattle.wallet_core.specs.declared.node.WalletNode.{WalletNode}
@@ -9,7 +9,7 @@ node_seen n = record {
   setup = setup_of n.setup;
   engagement = n.engagement;
   state = state_seen n.state;
-  joined = n.joining;
+  joined = n.message_joiner;
   released = n.released.items;
 }
 

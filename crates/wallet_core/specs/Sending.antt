@@ -8,7 +8,7 @@ use Rattle.session_seal.specs.declared.wallet_end.WalletEnd.{WalletEnd}
 use Rattle.wallet_model.specs.Setup.{Setup}
 use Rattle.wallet_model.specs.Stands.{Node}
 use Rattle.wallet_model.specs.Wallet.{Run, sent}
-use Rattle.wallet_steps.specs.Taking.{Took, in_list}
+use Rattle.wallet_model.specs.Taking.{Took, in_list}
 
 -- A law: where a further fragment was taken, the fragments that are sent are those before and the fragments of the reply.
 abbrev pub SentGrows : Type 0

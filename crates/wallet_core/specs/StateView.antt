@@ -4,8 +4,8 @@ use Rattle.session_seal.specs.declared.wallet_end.WalletEnd.{WalletEnd}
 use Rattle.session_seal.specs.declared.wallet_end.WalletEnd.TheVariants as ends
 use Rattle.wallet_model.specs.Stands as states
 use Rattle.wallet_model.specs.Stands.{NodeState}
-use Rattle.wallet_reply.specs.declared.after_round.AfterRound.{AfterRound}
-use Rattle.wallet_reply.specs.declared.after_round.AfterRound.TheVariants as rounds
+use Rattle.wallet_core.specs.declared.after_round.AfterRound.{AfterRound}
+use Rattle.wallet_core.specs.declared.after_round.AfterRound.TheVariants as rounds
 use Rattle.wallet_core.specs.declared.state.State.{State}
 use Rattle.wallet_core.specs.declared.state.State.TheVariants.{Engaged, Open, Ended, Spent}
 

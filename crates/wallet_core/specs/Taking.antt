@@ -11,7 +11,7 @@ use Rattle.wallet_model.specs.Setup.{Setup}
 use Rattle.wallet_model.specs.Stands as states
 use Rattle.wallet_model.specs.Stands.{Node, NodeState, StandsFor}
 use Rattle.wallet_model.specs.Wallet.{Run, closed, end_of}
-use Rattle.wallet_steps.specs.Taking.{Took, list_end}
+use Rattle.wallet_model.specs.Taking.{Took, list_end}
 use Rattle.wallet_core.specs.Answering.{IsLost}
 use Rattle.wallet_core.specs.NodeView.{node_in}
 use Rattle.wallet_core.specs.StateView.{over_end}

@@ -6,33 +6,36 @@ ghost use Rattle.key_device.specs.Recording.{inner, talk};
 ghost use Rattle.key_device.specs.declared.exchange.Exchange.{Exchange};
 ghost use Rattle.mdoc_outside.specs.Dealt.{dealt, inner as dice_of};
 ghost use Rattle.mdoc_outside.specs.GaveWords.{GaveWords};
-ghost use Rattle.wallet_choice.specs.SetupView.{setup_of};
+ghost use Rattle.wallet_answer.specs.SetupView.{setup_of};
 ghost use Rattle.wallet_model.specs.Stands as states;
-ghost use Rattle.wallet_start.specs.Ends.{Cause};
-ghost use Rattle.wallet_round.specs.Rounds.{IsWithin};
-ghost use Rattle.wallet_steps.specs.Taking.{IsLive};
+ghost use Rattle.wallet_core.specs.Ends.{Cause};
+ghost use Rattle.wallet_core.specs.Rounds.{IsWithin};
+ghost use Rattle.wallet_model.specs.Taking.{IsLive};
 ghost use Rattle.wallet_core.specs.Answering.{Answers, IsPlaced, Settles, first_left, next_left};
-ghost use Rattle.message_joining.specs.Hearing.{is_last};
+ghost use Rattle.ble_fragments.specs.Arrivals.{is_last};
 ghost use Rattle.wallet_core.specs.NodeView.{node_in, node_seen};
-ghost use Rattle.wallet_core.specs.Starting.{IsNew, Starts};
+ghost use Rattle.wallet_core.specs.NodeStarting.{IsNew, Starts};
 ghost use Rattle.wallet_core.specs.Taking.{Closes, IsSameSetup, Listens, RestsAfterEnd, Takes, closed_end, closed_state};
 
-use crate::room::{find_room, keep_places};
+use crate::first_message::first_round;
+use crate::later_message::next_round;
+use crate::node_room::{check_memory, keep_places};
+use crate::round::Round;
+use crate::start_fault::StartFault;
+use crate::started::Started;
+use crate::starting::start;
 use crate::state::State;
 use crate::waiting::Waiting;
+use crate::want_of_memory::WantOfMemory;
 use crate::{Announced, Reply};
-use ble_fragments::Ending;
+use ble_fragments::{Arrival, Ending, MessageJoiner, may_end_message};
 use key_device::{KeyDevice, Recorder};
 use mdoc_outside::{Dealt, Dice, Fragment, Memory, Octets};
-use message_joining::{Heard, Joining, may_end_message};
 use session_seal::{WalletEnd, WalletEngaged, WalletOpen};
 use std::alloc::Global;
 use std::mem;
-use wallet_choice::WalletSetup;
+use wallet_answer::WalletSetup;
 use wallet_model::ReleasedAt;
-use wallet_reply::Round;
-use wallet_round::{Unanswered, first_round, next_round};
-use wallet_start::{StartFault, Started, start};
 
 /// The wallet's end of one session.
 #[derive(Drop)]
@@ -41,7 +44,7 @@ pub struct WalletNode<'a> {
     setup: WalletSetup<'a>,
     engagement: Octets,
     state: State,
-    joining: Joining,
+    message_joiner: MessageJoiner,
     released: Vec<ReleasedAt>,
 }
 
@@ -78,7 +81,7 @@ impl<'a> WalletNode<'a> {
             setup,
             engagement,
             state: State::Engaged(state),
-            joining: Joining::new(alloc),
+            message_joiner: MessageJoiner::new(alloc),
             released: Vec::new(alloc),
         }
     }
@@ -157,10 +160,10 @@ impl<'a> WalletNode<'a> {
         ensures takes { (told : List Exchange) → Takes (node_seen self.old) told fragment.now result told (node_seen self.new) }
         ensures same { IsSameSetup (node_seen self.old) (node_seen self.new) }
     {
-        let heard = self.joining.hear(fragment)?;
-        match heard {
-            Heard::Message(_) => unreachable!(),
-            Heard::Nothing(ending) => Ok(self.listen(ending)),
+        let arrival = self.message_joiner.join(fragment)?;
+        match arrival {
+            Arrival::Message(_) => unreachable!(),
+            Arrival::Nothing(ending) => Ok(self.listen(ending)),
         }
     }
 
@@ -176,12 +179,12 @@ impl<'a> WalletNode<'a> {
         ensures same { IsSameSetup (node_seen self.old) (node_seen self.new) }
         ensures gave { Gave D.gives D.unasked D.faults device.old device.new }
     {
-        let mut joining = self.joining.again()?;
-        let heard = joining.hear(fragment)?;
-        match heard {
-            Heard::Message(message) => self.answer(joining, message.as_slice(), device),
-            Heard::Nothing(ending) => {
-                self.joining = joining;
+        let mut message_joiner = self.message_joiner.again()?;
+        let arrival = message_joiner.join(fragment)?;
+        match arrival {
+            Arrival::Message(message) => self.answer(message_joiner, message.as_slice(), device),
+            Arrival::Nothing(ending) => {
+                self.message_joiner = message_joiner;
                 Ok(self.listen(ending))
             }
         }
@@ -210,20 +213,20 @@ impl<'a> WalletNode<'a> {
     #[tactic(auto, using(key_device::proofs::GaveLemmas::gave_none))]
     fn answer<D: KeyDevice>(
         &mut self,
-        joining: Joining,
+        message_joiner: MessageJoiner,
         message: &[u8],
         device: &mut Recorder<D>,
     ) -> Result<Reply, Memory>
         requires live { IsLive (node_seen self.old).state }
         requires short { length message.now ≤ 2 ^ 24 }
-        ensures answers { Answers (node_seen self.old) message.now (talk device.old) (talk device.new) joining result (node_seen self.new) }
+        ensures answers { Answers (node_seen self.old) message.now (talk device.old) (talk device.new) message_joiner result (node_seen self.new) }
         ensures same { IsSameSetup (node_seen self.old) (node_seen self.new) }
         ensures gave { Gave D.gives D.unasked D.faults device.old device.new }
     {
-        find_room(self.alloc)?;
+        check_memory(self.alloc)?;
         match mem::replace(&mut self.state, State::Spent) {
-            State::Engaged(engaged) => self.answer_first(engaged, joining, message, device),
-            State::Open(waiting) => self.answer_next(waiting, joining, message, device),
+            State::Engaged(engaged) => self.answer_first(engaged, message_joiner, message, device),
+            State::Open(waiting) => self.answer_next(waiting, message_joiner, message, device),
             State::Ended(_) => unreachable!(),
             State::Spent => unreachable!(),
         }
@@ -233,18 +236,18 @@ impl<'a> WalletNode<'a> {
     fn answer_first<D: KeyDevice>(
         &mut self,
         engaged: WalletEngaged,
-        joining: Joining,
+        message_joiner: MessageJoiner,
         message: &[u8],
         device: &mut Recorder<D>,
     ) -> Result<Reply, Memory>
         requires lost { (node_seen self.old).state ≡ states.Spent }
         requires short { length message.now ≤ 2 ^ 24 }
-        ensures answers { Answers (node_in (node_seen self.old) (states.Engaged engaged)) message.now (talk device.old) (talk device.new) joining result (node_seen self.new) }
+        ensures answers { Answers (node_in (node_seen self.old) (states.Engaged engaged)) message.now (talk device.old) (talk device.new) message_joiner result (node_seen self.new) }
         ensures same { IsSameSetup (node_seen self.old) (node_seen self.new) }
         ensures gave { Gave D.gives D.unasked D.faults device.old device.new }
     {
         match first_round(self.alloc, &self.setup, engaged, message, device) {
-            Ok(round) => self.settle(joining, round),
+            Ok(round) => self.settle(message_joiner, round),
             Err(wanting) => {
                 self.restore_first(wanting);
                 Err(Memory)
@@ -256,13 +259,13 @@ impl<'a> WalletNode<'a> {
     fn answer_next<D: KeyDevice>(
         &mut self,
         waiting: Waiting,
-        joining: Joining,
+        message_joiner: MessageJoiner,
         message: &[u8],
         device: &mut Recorder<D>,
     ) -> Result<Reply, Memory>
         requires lost { (node_seen self.old).state ≡ states.Spent }
         requires short { length message.now ≤ 2 ^ 24 }
-        ensures answers { Answers (node_in (node_seen self.old) (states.Open waiting)) message.now (talk device.old) (talk device.new) joining result (node_seen self.new) }
+        ensures answers { Answers (node_in (node_seen self.old) (states.Open waiting)) message.now (talk device.old) (talk device.new) message_joiner result (node_seen self.new) }
         ensures same { IsSameSetup (node_seen self.old) (node_seen self.new) }
         ensures gave { Gave D.gives D.unasked D.faults device.old device.new }
     {
@@ -273,7 +276,7 @@ impl<'a> WalletNode<'a> {
             message,
             device,
         ) {
-            Ok(round) => self.settle(joining, round),
+            Ok(round) => self.settle(message_joiner, round),
             Err(wanting) => {
                 self.restore_next(wanting);
                 Err(Memory)
@@ -282,7 +285,7 @@ impl<'a> WalletNode<'a> {
     }
 
     /// Keeps what a round came to.
-    fn settle(&mut self, joined: Joining, round: Round) -> Result<Reply, Memory>
+    fn settle(&mut self, joined: MessageJoiner, round: Round) -> Result<Reply, Memory>
         requires { IsWithin round.after }
         ensures settles { IfOk result (λ reply. Settles (node_seen self.old) joined round reply (node_seen self.new)) }
         ensures lost { OnErr result (((node_seen self.new).state ≡ (node_seen self.old).state) × ¬ (round.places.items ≡ [])) }
@@ -296,7 +299,7 @@ impl<'a> WalletNode<'a> {
         keep_places(&mut self.released, places)?;
         let ended = after.end();
         self.state = State::after(after);
-        self.joining = joined;
+        self.message_joiner = joined;
         Ok(Reply {
             message: reply,
             ended,
@@ -304,25 +307,25 @@ impl<'a> WalletNode<'a> {
     }
 
     /// Puts the state before the first message back, where it was handed back.
-    fn restore_first(&mut self, wanting: Unanswered<WalletEngaged>)
+    fn restore_first(&mut self, wanting: WantOfMemory<WalletEngaged>)
         requires { (node_seen self.old).state ≡ states.Spent }
         ensures { node_seen self.new ≡ node_in (node_seen self.old) (first_left wanting) }
     {
         match wanting {
-            Unanswered::Back(engaged) => self.state = State::Engaged(engaged),
-            Unanswered::Spent => {}
+            WantOfMemory::Back(engaged) => self.state = State::Engaged(engaged),
+            WantOfMemory::Spent => {}
         }
     }
 
     /// Puts the state before a later message back, where it was handed back.
-    fn restore_next(&mut self, wanting: Unanswered<WalletOpen>)
+    fn restore_next(&mut self, wanting: WantOfMemory<WalletOpen>)
         requires lost { (node_seen self.old).state ≡ states.Spent }
         requires within { IsPlaced wanting }
         ensures { node_seen self.new ≡ node_in (node_seen self.old) (next_left wanting) }
     {
         match wanting {
-            Unanswered::Back(open) => self.state = State::Open(Waiting::new(open)),
-            Unanswered::Spent => {}
+            WantOfMemory::Back(open) => self.state = State::Open(Waiting::new(open)),
+            WantOfMemory::Spent => {}
         }
     }
 

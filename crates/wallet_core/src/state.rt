@@ -2,14 +2,14 @@
 
 ghost use Rattle.std.specs.Prelude.{◌≡◌};
 ghost use Rattle.ble_fragments.specs.declared.ending.Ending.TheVariants.{Bad, Peer};
-ghost use Rattle.wallet_round.specs.Rounds.{IsWithin};
-ghost use Rattle.wallet_steps.specs.Taking.{list_end};
+ghost use Rattle.wallet_core.specs.Rounds.{IsWithin};
+ghost use Rattle.wallet_model.specs.Taking.{list_end};
 ghost use Rattle.wallet_core.specs.StateView.{after_state, over_end, state_seen};
 
+use crate::after_round::AfterRound;
 use crate::waiting::Waiting;
 use ble_fragments::{Ending, JoinFault};
 use session_seal::{WalletEnd, WalletEngaged};
-use wallet_reply::AfterRound;
 
 /// Where a session is.
 #[derive(Drop)]

@@ -4,3 +4,7 @@ pub mod ShownAlike
 pub mod SelectionsAlike
 pub mod RoundsAlike
 pub mod ReleasedItems
+pub mod AfterEnd
+pub mod RoundSteps
+pub mod RunLemmas
+pub mod Taken

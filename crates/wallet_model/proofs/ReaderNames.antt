@@ -7,7 +7,9 @@ use Rattle.std.proofs.lemmas.Slice.Eq.{bytes_eq-Decides}
 use Rattle.cert_view.specs.Root.{listed}
 use Rattle.cert_view.specs.declared.root.Root.{Root}
 use Rattle.doc_request.specs.Asked.{Document}
-use Rattle.doc_request.specs.Known.{Authentication, are_valid, authentication_of, confirming_root, known, known_as, known_by, known_under, name_if, reader_signed, root_confirms, signed_under, under_root}
+use Rattle.doc_request.specs.Known.{Authentication, authentication_of, known, known_as, known_by, known_under, name_if, reader_signed, signed_under, under_root}
+use Rattle.root_trust.specs.Validity.{are_valid}
+use Rattle.root_trust.specs.Confirming.{confirming_root, root_confirms}
 use Rattle.key_device.specs.Plan.{Plan, Done}
 use Rattle.key_device.specs.PlanSteps.{first_yes, unless_yes}
 use Rattle.key_device.specs.declared.device_fault.DeviceFault.{DeviceFault}

@@ -17,7 +17,7 @@ use Rattle.round_model.proofs.AlikeLemmas.{in_parts}
 use Rattle.session_seal.specs.Wallet.{WalletSession}
 use Rattle.wallet_model.specs.Answer.{Answer, answer, answer_asked, answer_request, answer_selections, answer_to_readers, answer_with, authenticated, device_auth, document_with, full_draft, known_readers, response_with, status_response}
 use Rattle.wallet_model.specs.Laws.{AreReaders, AreReleased, IsReleased, IsReleasedOnly, IsResponse}
-use Rattle.wallet_model.specs.Released.{Choice, ReleasedItem, Selection, ShownCopy, choice, choice_of, choice_with, choices, item_for, item_of, named, refused, released, selections, shown_copy, wish_for, wishes_of}
+use Rattle.wallet_model.specs.Released.{ReleasedDocument, ReleasedItem, Selection, ShownCopy, choice, choice_of, choice_with, choices, item_for, item_of, named, refused, released, selections, shown_copy, wish_for, wishes_of}
 use Rattle.wallet_model.specs.Setup.{Setup}
 use Rattle.wallet_model.proofs.Always.{Always, Anything, OfValue, always_outcome, always_step}
 use Rattle.wallet_model.proofs.ReaderNames.{always_value}
@@ -92,11 +92,11 @@ all_items W session text tape document reader shown c (wish ∷ wishes) place_of
 
 -- ---- a choice
 
-abbrev ChoiceReleased : Setup → WalletSession → List ℕ → List Exchange → Choice → Type 0
+abbrev ChoiceReleased : Setup → WalletSession → List ℕ → List Exchange → ReleasedDocument → Type 0
 ChoiceReleased W session text tape c =
     AllByRecursion (λ (item : List ℕ × List ℕ). IsReleased W session text tape c.answered.doc_type item) c.answered.items
 
-abbrev IfChoice : (Choice → Type 0) → Option Choice → Type 0
+abbrev IfChoice : (ReleasedDocument → Type 0) → Option ReleasedDocument → Type 0
 IfChoice P None = Unit {0}
 IfChoice P (Some c) = P c
 
@@ -122,7 +122,7 @@ one_choice W session text tape documents readers asks are document reader by = o
 
 -- ---- all of them
 
-add_choice : (P : Choice → Type 0) (found : Option Choice) (list : List Choice) → IfChoice P found → AllByRecursion P list → AllByRecursion P (cons_option found list)
+add_choice : (P : ReleasedDocument → Type 0) (found : Option ReleasedDocument) (list : List ReleasedDocument) → IfChoice P found → AllByRecursion P list → AllByRecursion P (cons_option found list)
 add_choice P None list is all = all
 add_choice P (Some c) list is all = (is, all)
 
@@ -142,13 +142,13 @@ all_choices W session text tape documents readers asks are (document ∷ later) 
 -- ---- the documents of a response
 
 -- the documents are those of the choices, authenticated
-abbrev Answers : List Choice → List draft.Document → Type 0
+abbrev Answers : List ReleasedDocument → List draft.Document → Type 0
 Answers [] [] = Unit {0}
 Answers [] (d ∷ ds) = ⊥
 Answers (c ∷ cs) [] = ⊥
 Answers (c ∷ cs) (d ∷ ds) = (d.answered ≡ c.answered) × Answers cs ds
 
-are_answered : (session : WalletSession) (list : List Choice) → Always (OfValue (Answers list)) (each (authenticated session) list)
+are_answered : (session : WalletSession) (list : List ReleasedDocument) → Always (OfValue (Answers list)) (each (authenticated session) list)
 unfolding authenticated
 are_answered session [] = tt
 are_answered session (c ∷ list) =
@@ -156,7 +156,7 @@ are_answered session (c ∷ list) =
     (always_step Anything (λ (d : draft.Document). d.answered ≡ c.answered) (device_auth session c) (λ auth. Done (Ok (document_with c auth))) (always_value (device_auth session c)) (λ auth any. refl))
     (λ d is. always_step (Answers list) (Answers (c ∷ list)) (each (authenticated session) list) _ (are_answered session list) (λ ds are. (is, are)))
 
-answered_released : (W : Setup) (session : WalletSession) (text : List ℕ) (tape : List Exchange) (list : List Choice) (documents : List draft.Document)
+answered_released : (W : Setup) (session : WalletSession) (text : List ℕ) (tape : List Exchange) (list : List ReleasedDocument) (documents : List draft.Document)
     → Answers list documents → AllByRecursion (ChoiceReleased W session text tape) list → AllByRecursion (AreReleased W session text tape) documents
 answered_released W session text tape [] [] are all = tt
 answered_released W session text tape [] (d ∷ ds) are all = absurd are

@@ -16,7 +16,7 @@ use Rattle.doc_store.specs.Store.{Copy, Store}
 use Rattle.mdoc_outside.specs.OptionSteps.{◌>>=◌}
 use Rattle.wallet_model.specs.Agreement.{CopyFrame, HoldAlike, copy_frame, frame}
 use Rattle.wallet_model.specs.Answer.{places_of}
-use Rattle.wallet_model.specs.Released.{Choice, ReleasedItem, Selection, ShownCopy, choice, choice_of, choice_with, choices, is_refused, item_for, item_of, name_of, named, place_in, refused, released, released_for, selection, selections, stored_place, wish_for, wishes_of}
+use Rattle.wallet_model.specs.Released.{ReleasedDocument, ReleasedItem, Selection, ShownCopy, choice, choice_of, choice_with, choices, is_refused, item_for, item_of, name_of, named, place_in, refused, released, released_for, selection, selections, stored_place, wish_for, wishes_of}
 use Rattle.wallet_model.specs.Setup.{Setup, with_store}
 use Rattle.wallet_model.specs.declared.released_at.ReleasedAt.{ReleasedAt}
 use Rattle.wallet_model.proofs.ReaderNames.{IsReader}
@@ -110,7 +110,7 @@ filter_same rules reader one other (wish ∷ wishes) same =
 
 -- ---- a document
 
-abbrev places_in : Option Choice → List ReleasedAt
+abbrev places_in : Option ReleasedDocument → List ReleasedAt
 places_in None = []
 places_in (Some choice) = choice.places
 
@@ -121,7 +121,7 @@ places_with doc_type shown missing [] = refl
 places_with doc_type shown missing (item ∷ items) = refl
 
 -- what is chosen of two copies that are alike but for their items, with equal items released and equal names missing
-abbrev choice_parts : List ℕ → ℕ → Bool → CopyFrame → List (List ℕ × List ℕ) → List ReleasedItem → Option Choice
+abbrev choice_parts : List ℕ → ℕ → Bool → CopyFrame → List (List ℕ × List ℕ) → List ReleasedItem → Option ReleasedDocument
 choice_parts doc_type document uses_mac copy missing [] = None
 choice_parts doc_type document uses_mac copy missing (item ∷ items) = Some (record {
   key = copy.key;
@@ -187,7 +187,7 @@ first_places : (s : Selection) (list : List Selection) (within : ReleasedAt → 
     → (list_all within (places_in s.choice) ≡ true) × (list_all within (places_of list) ≡ true)
 first_places s list within fits = go s.choice fits
   where
-    go : (found : Option Choice) → list_all within (flat_map (λ (c : Choice). c.places) (cons_option found (choices list))) ≡ true
+    go : (found : Option ReleasedDocument) → list_all within (flat_map (λ (c : ReleasedDocument). c.places) (cons_option found (choices list))) ≡ true
         → (list_all within (places_in found) ≡ true) × (list_all within (places_of list) ≡ true)
     go None is = (refl, is)
     go (Some found) is = both_parts _ _ (sym (list_all-append within found.places (places_of list)) ∙ is)
@@ -199,6 +199,6 @@ selections_same W other [] readers agree are fits = refl
 selections_same W other (asked ∷ documents) [] agree are fits = refl
 selections_same W other (asked ∷ documents) (reader ∷ readers) agree are fits =
     let parts = first_places (selection W asked reader) (selections W documents readers) (is_same_at W other) fits in
-    ap (λ (found : Option Choice). record { doc_type = asked.doc_type; choice = found } ∷ selections (with_store W other) documents readers)
+    ap (λ (found : Option ReleasedDocument). record { doc_type = asked.doc_type; choice = found } ∷ selections (with_store W other) documents readers)
     (choice_same W other reader asked agree are.0 parts.0 (show_alike W other asked.doc_type agree.frames))
     ∙ ap (λ (list : List Selection). selection W asked reader ∷ list) (selections_same W other documents readers agree are.1 parts.1)

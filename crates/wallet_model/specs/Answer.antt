@@ -13,14 +13,14 @@ use Rattle.doc_response.specs.Written.{response_bytes}
 use Rattle.doc_response.specs.declared.device_auth.DeviceAuth.{DeviceAuth}
 use Rattle.doc_response.specs.declared.device_auth.DeviceAuth.TheVariants.{Signature, Mac}
 use Rattle.key_device.specs.Plan.{Plan, Done, Then, bind}
-use Rattle.key_device.specs.PlanSteps.{◌>>=◌, each, turned}
+use Rattle.key_device.specs.PlanSteps.{◌>>=◌, each, mapped}
 use Rattle.key_device.specs.declared.ask.Ask.TheVariants.{Agree, Sign}
 use Rattle.key_device.specs.declared.device_fault.DeviceFault.{DeviceFault}
 use Rattle.key_device.specs.declared.device_fault.DeviceFault.TheVariants.{Failed}
 use Rattle.key_device.specs.declared.told.Told.{Told}
 use Rattle.key_device.specs.declared.told.Told.TheVariants as tells
 use Rattle.session_seal.specs.Wallet.{WalletSession}
-use Rattle.wallet_model.specs.Released.{Choice, Selection, selections, choices, types_of_nothing}
+use Rattle.wallet_model.specs.Released.{ReleasedDocument, Selection, selections, choices, types_of_nothing}
 use Rattle.wallet_model.specs.Setup.{Setup}
 use Rattle.wallet_model.specs.declared.released_at.ReleasedAt.{ReleasedAt}
 
@@ -38,7 +38,7 @@ known_readers W transcript documents = each (λ (document : Document). known doc
 -- ---- the device's authentication of a document (9.1.3)
 
 -- what it signs or makes a code of; it signs no element of its own
-abbrev pub payload_of : WalletSession → Choice → List ℕ
+abbrev pub payload_of : WalletSession → ReleasedDocument → List ℕ
 payload_of session choice = device_payload session.transcript choice.answered.doc_type (named_map [])
 
 -- by a signature (9.1.3.6)
@@ -47,23 +47,23 @@ by_signature (tells.Signature signature) = Ok (Signature signature)
 by_signature told = Err Failed
 
 -- by a code, under a key of the secret of the device key and the reader's ephemeral key (9.1.3.5)
-abbrev pub by_mac : WalletSession → Choice → Told → Result DeviceAuth DeviceFault
+abbrev pub by_mac : WalletSession → ReleasedDocument → Told → Result DeviceAuth DeviceFault
 by_mac session choice (tells.Secret secret) = Ok (Mac (device_mac (mac_key secret session.transcript) (payload_of session choice)))
 by_mac session choice told = Err Failed
 
-abbrev pub signed_auth : WalletSession → Choice → Plan (Result DeviceAuth DeviceFault)
+abbrev pub signed_auth : WalletSession → ReleasedDocument → Plan (Result DeviceAuth DeviceFault)
 signed_auth session choice = Then (Sign choice.key (signed_structure es256 (payload_of session choice))) (λ told. Done (by_signature told))
 
-abbrev pub mac_auth : WalletSession → Choice → Plan (Result DeviceAuth DeviceFault)
+abbrev pub mac_auth : WalletSession → ReleasedDocument → Plan (Result DeviceAuth DeviceFault)
 mac_auth session choice = Then (Agree choice.key session.reader_key) (λ told. Done (by_mac session choice told))
 
-unfoldable pub device_auth : WalletSession → Choice → Plan (Result DeviceAuth DeviceFault)
+unfoldable pub device_auth : WalletSession → ReleasedDocument → Plan (Result DeviceAuth DeviceFault)
 device_auth session choice = if choice.uses_mac then mac_auth session choice else signed_auth session choice
 
-abbrev pub document_with : Choice → DeviceAuth → draft.Document
+abbrev pub document_with : ReleasedDocument → DeviceAuth → draft.Document
 document_with choice auth = record { answered = choice.answered; issuer_auth = choice.issuer_auth; auth = auth }
 
-unfoldable pub authenticated : WalletSession → Choice → Plan (Result draft.Document DeviceFault)
+unfoldable pub authenticated : WalletSession → ReleasedDocument → Plan (Result draft.Document DeviceFault)
 authenticated session choice = device_auth session choice >>= λ auth. Done (Ok (document_with choice auth))
 
 -- ---- the response
@@ -89,13 +89,13 @@ response_with selections (Err fault) = status_response 10
 
 -- The items that were chosen count as released, whatever the response is: its length may depend on them.
 abbrev pub places_of : List Selection → List ReleasedAt
-places_of selections = flat_map (λ (choice : Choice). choice.places) (choices selections)
+places_of selections = flat_map (λ (choice : ReleasedDocument). choice.places) (choices selections)
 
 abbrev pub answer_with : List Selection → Result (List draft.Document) DeviceFault → Answer
 answer_with selections documents = record { text = response_with selections documents; places = places_of selections }
 
 unfoldable pub answer_selections : WalletSession → List Selection → Plan Answer
-answer_selections session selections = turned (answer_with selections) (each (authenticated session) (choices selections))
+answer_selections session selections = mapped (answer_with selections) (each (authenticated session) (choices selections))
 
 -- A request: first who asks for each of its documents, then the device's authentication of each of which something is
 -- released.

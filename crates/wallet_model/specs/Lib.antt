@@ -6,3 +6,4 @@ pub mod Wallet
 pub mod Stands
 pub mod Agreement
 pub mod Laws
+pub mod Taking

@@ -67,7 +67,7 @@ refused rules reader copy wishes = map name_of (filter (is_refused rules reader 
 
 -- A document of which something is released: the number of its device key, how it is authenticated, the issuer's signature
 -- as it is stored, what is answered, and the places of the released items.
-pub record Choice : Type 0 where
+pub record ReleasedDocument : Type 0 where
   pub key : ℕ
   pub uses_mac : Bool
   pub issuer_auth : List ℕ
@@ -80,7 +80,7 @@ item_of item = (item.ns, item.raw)
 abbrev pub place_in : ℕ → ReleasedItem → ReleasedAt
 place_in document item = record { document = document; ns = item.ns; name = item.name }
 
-abbrev pub choice_with : List ℕ → ShownCopy → List (List ℕ × List ℕ) → List ReleasedItem → Option Choice
+abbrev pub choice_with : List ℕ → ShownCopy → List (List ℕ × List ℕ) → List ReleasedItem → Option ReleasedDocument
 choice_with doc_type shown missing [] = None
 choice_with doc_type shown missing (item ∷ items) = Some (record {
   key = shown.copy.key;
@@ -90,17 +90,17 @@ choice_with doc_type shown missing (item ∷ items) = Some (record {
   places = map (place_in shown.document) (item ∷ items);
 })
 
-abbrev pub choice_of : List Rule → Option (List ℕ) → Document → ShownCopy → Option Choice
+abbrev pub choice_of : List Rule → Option (List ℕ) → Document → ShownCopy → Option ReleasedDocument
 choice_of rules reader asked shown =
     choice_with asked.doc_type shown (refused rules reader shown.copy (wishes_of asked)) (released rules reader shown.copy (wishes_of asked))
 
-abbrev pub choice : Setup → Option (List ℕ) → Document → Option Choice
+abbrev pub choice : Setup → Option (List ℕ) → Document → Option ReleasedDocument
 choice W reader asked = shown_copy W asked.doc_type >>= choice_of W.rules reader asked
 
 -- Each document that is asked for, by who asks for it: what is released of it, if something is.
 pub record Selection : Type 0 where
   pub doc_type : List ℕ
-  pub choice : Option Choice
+  pub choice : Option ReleasedDocument
 
 abbrev pub selection : Setup → Document → Option (List ℕ) → Selection
 selection W asked reader = record { doc_type = asked.doc_type; choice = choice W reader asked }
@@ -110,7 +110,7 @@ selections W (asked ∷ others) (reader ∷ readers) = selection W asked reader 
 selections W others readers = []
 
 -- the documents of which something is released, and the types of those of which nothing is
-abbrev pub choices : List Selection → List Choice
+abbrev pub choices : List Selection → List ReleasedDocument
 choices list = filter_map (λ (s : Selection). s.choice) list
 
 abbrev pub types_of_nothing : List Selection → List (List ℕ)

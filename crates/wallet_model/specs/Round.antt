@@ -3,7 +3,7 @@
 -- state is carried from round to round.
 use Rattle.std.specs.Prelude.{ℕ, ◌==◌, Bool, true, false, List, [], Option, Some, None, Ok, Err, if◌then◌else◌}
 use Rattle.key_device.specs.Plan.{Plan, Done}
-use Rattle.key_device.specs.PlanSteps.{turned}
+use Rattle.key_device.specs.PlanSteps.{mapped}
 use Rattle.round_model.specs.Rounds.{Round}
 use Rattle.session_seal.specs.Ending.{Ending}
 use Rattle.session_seal.specs.Wallet.{WalletOpened, WalletSession, wallet_opens, wallet_seals}
@@ -48,7 +48,7 @@ ended_round ending = record { reply = ending.last_message; entries = []; ended =
 
 -- A message that isn't opened ends the session, with a status message or without one; else the text is answered.
 abbrev pub round_of : Setup → WalletOpened → Plan WalletRound
-round_of W (Ok now) = turned (answered_round now.0) (answer W now.0 now.1)
+round_of W (Ok now) = mapped (answered_round now.0) (answer W now.0 now.1)
 round_of W (Err ending) = Done (ended_round ending)
 
 unfoldable pub round : Setup → WalletOpened → ℕ → List ℕ → Plan WalletRound

@@ -3,7 +3,7 @@ use Rattle.std.specs.Prelude.{◌≡◌, ◌<◌, ◌+◌, ℕ, List, [], length
 use Rattle.ble_fragments.specs.Joins.{Joined, Joins}
 use Rattle.ble_fragments.specs.Whole.{whole}
 use Rattle.ble_fragments.specs.declared.ending.Ending.TheVariants as lists
-use Rattle.key_device.specs.Plan.{Came, FollowsAll}
+use Rattle.key_device.specs.Plan.{Finished, FollowsAll}
 use Rattle.key_device.specs.declared.exchange.Exchange.{Exchange}
 use Rattle.mdoc_outside.specs.declared.fragment.Fragment.{Fragment}
 use Rattle.round_model.specs.Rounds.{end_of_rounds}
@@ -63,7 +63,7 @@ KeepsState came run Spent joined = ⊥
 -- what it keeps is what the definition gives.
 pub record StandsFor (W : Setup) (words : List ℕ) (came : List Fragment) (begun talk : List Exchange) (run : Run) (node : Node) : Type 0 where
   pub setup : node.setup ≡ W
-  pub follows : FollowsAll (wallet W came) begun [] [] talk [] words (Came (Ok run))
+  pub follows : FollowsAll (wallet W came) begun [] [] talk [] words (Finished (Ok run))
   pub engagement : node.engagement ≡ run.start.engagement
   pub released : node.released ≡ released_in run
   pub state : KeepsState came run node.state node.joined

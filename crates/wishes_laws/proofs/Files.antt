@@ -10,10 +10,10 @@ use Rattle.mdoc_outside.specs.declared.limit_name.LimitName.{LimitName}
 use Rattle.doc_request.specs.Draft.{IsDocument, wish_count, is_same_element}
 use Rattle.doc_request.specs.declared.doc_draft.DocDraft.{DocDraft}
 use Rattle.doc_request.specs.declared.wish_draft.WishDraft.{WishDraft}
-use Rattle.mdoc_program.specs.Wishes.{Progress, at_start, wishes_of}
-use Rattle.mdoc_program.specs.declared.file_fault.FileFault.{FileFault}
-use Rattle.mdoc_program.specs.declared.file_fault.FileFault.TheVariants as fault
-use Rattle.mdoc_program.proofs.RequestLemmas.{wishes_request}
+use Rattle.mdoc_frame.specs.Wishes.{Progress, at_start, wishes_of}
+use Rattle.mdoc_frame.specs.declared.file_fault.FileFault.{FileFault}
+use Rattle.mdoc_frame.specs.declared.file_fault.FileFault.TheVariants as fault
+use Rattle.mdoc_frame.proofs.RequestLemmas.{wishes_request}
 use Rattle.wishes_laws.specs.BadLine.{CanGoOn, IsBadLine, outside, early, Passes, documents_of_file, wishes_of_document, wishes_of_file, PassesLimit, IsLimited}
 use Rattle.wishes_laws.specs.WishesFile.{request_lines, IsAsked, AreLinesOf, AreWithinLimits, words_of, IsWishesFile}
 use Rattle.wishes_laws.proofs.Going.{begun, ends, closed, new_document, add_wish, opened, wanted, said_next, next, goes, goes-append, MayBeOpen, all-push, asked-of, goes-sound, start-good, goes-front, lines-whole, can-goes, goes-can}

@@ -11,7 +11,7 @@ use Rattle.mdoc_outside.specs.WordForm.{is_name}
 use Rattle.doc_request.specs.Draft.{are_distinct, is_same_element}
 use Rattle.doc_request.specs.declared.doc_draft.DocDraft.{DocDraft}
 use Rattle.doc_request.specs.declared.wish_draft.WishDraft.{WishDraft}
-use Rattle.mdoc_program.specs.Wishes.{Progress, at_start}
+use Rattle.mdoc_frame.specs.Wishes.{Progress, at_start}
 use Rattle.wishes_laws.specs.BadLine.{CanGoOn}
 use Rattle.wishes_laws.specs.WishesFile.{document_words, want_words, document_lines, request_lines, AreNames, IsAsked, AreLinesOf}
 use Rattle.wishes_laws.proofs.LineWords.{chosen, if-some, same-value, Said, Document, Want, said_of, line-sound, line-complete}

@@ -3,12 +3,12 @@ use Rattle.std.proofs.Common.{◌≡◌, refl, ap, ◌∙◌, subst, Bool, true,
 use Rattle.std.proofs.lemmas.Slice.Eq.{bytes_eq-Decides}
 use Rattle.mdoc_outside.specs.OptionSteps.{◌>>=◌}
 use Rattle.mdoc_outside.specs.WordForm.{is_name}
-use Rattle.consent.specs.Rule.{flag_of}
+use Rattle.consent.specs.Rule.{read_flag}
 use Rattle.doc_request.specs.declared.wish_draft.WishDraft.{WishDraft}
-use Rattle.mdoc_program.specs.WishLine.{name_of, wish_line}
-use Rattle.mdoc_program.specs.Wishes.{Progress, with_document, with_want, with_line}
-use Rattle.mdoc_program.specs.declared.file_fault.FileFault.{FileFault}
-use Rattle.mdoc_program.specs.declared.file_fault.FileFault.TheVariants.{Line}
+use Rattle.mdoc_frame.specs.WishLine.{name_of, wish_line}
+use Rattle.mdoc_frame.specs.Wishes.{Progress, with_document, with_want, with_line}
+use Rattle.mdoc_frame.specs.declared.file_fault.FileFault.{FileFault}
+use Rattle.mdoc_frame.specs.declared.file_fault.FileFault.TheVariants.{Line}
 use Rattle.wishes_laws.specs.WishesFile.{document_words, flag_word, want_words, AreNames}
 
 -- ---- steps that gave a value
@@ -45,7 +45,7 @@ abbrev with_flag : List ℕ → List ℕ → Bool → Option Said
 with_flag space element keep = Some (Want (record { ns = space; name = element; retain = keep }))
 
 abbrev with_element : List ℕ → List ℕ → List ℕ → Option Said
-with_element retain space element = flag_of retain >>= with_flag space element
+with_element retain space element = read_flag retain >>= with_flag space element
 
 abbrev with_space : List ℕ → List ℕ → List ℕ → Option Said
 with_space name retain space = name_of name >>= with_element retain space
@@ -73,8 +73,8 @@ line-same number (word ∷ (doc_type ∷ [])) p = go (bytes_eq word (codes "docu
   go true e false f = rw (e, f) refl
   go false e b f = rw e refl
 line-same number (word ∷ (ns ∷ (name ∷ []))) p = refl
-line-same number (word ∷ (ns ∷ (name ∷ (retain ∷ [])))) p = go (bytes_eq word (codes "want")) refl (is_name ns) refl (is_name name) refl (flag_of retain) refl where
-  go : (a : Bool) → bytes_eq word (codes "want") ≡ a → (b : Bool) → is_name ns ≡ b → (c : Bool) → is_name name ≡ c → (d : Option Bool) → flag_of retain ≡ d →
+line-same number (word ∷ (ns ∷ (name ∷ (retain ∷ [])))) p = go (bytes_eq word (codes "want")) refl (is_name ns) refl (is_name name) refl (read_flag retain) refl where
+  go : (a : Bool) → bytes_eq word (codes "want") ≡ a → (b : Bool) → is_name ns ≡ b → (c : Bool) → is_name name ≡ c → (d : Option Bool) → read_flag retain ≡ d →
       with_line number (wish_line (word ∷ ns ∷ name ∷ retain ∷ [])) p ≡ with_said number (said_of (word ∷ ns ∷ name ∷ retain ∷ [])) p
   go false e b f c g d h = rw e refl
   go true e false f c g d h = rw (e, f) refl
@@ -100,7 +100,7 @@ name-sound word name e =
     let c = if-some (is_name word) (Some word) name e in
     (c.0, same-value word name c.1)
 
-flag-sound : (word : List ℕ) (flag : Bool) → flag_of word ≡ Some flag → word ≡ flag_word flag
+flag-sound : (word : List ℕ) (flag : Bool) → read_flag word ≡ Some flag → word ≡ flag_word flag
 flag-sound word flag e = go (bytes_eq word (codes "0")) refl (bytes_eq word (codes "1")) refl e where
   go : (a : Bool) → bytes_eq word (codes "0") ≡ a → (b : Bool) → bytes_eq word (codes "1") ≡ b → (if a then Some false else if b then Some true else None) ≡ Some flag → word ≡ flag_word flag
   go true zero b one same = equal-words word (codes "0") zero ∙ ap flag_word (same-value false flag same)
@@ -122,7 +122,7 @@ line-sound (word ∷ (ns ∷ (name ∷ (retain ∷ [])))) said e =
     let c = if-some (bytes_eq word (codes "want")) (name_of ns >>= with_space name retain) said e in
     let a = chosen (name_of ns) (with_space name retain) said c.1 in
     let b = chosen (name_of name) (with_element retain a.value) said a.after in
-    let d = chosen (flag_of retain) (with_flag a.value b.value) said b.after in
+    let d = chosen (read_flag retain) (with_flag a.value b.value) said b.after in
     let m = name-sound ns a.value a.before in
     let n = name-sound name b.value b.before in
     let f = flag-sound retain d.value d.before in
@@ -136,7 +136,7 @@ line-sound (word ∷ (ns ∷ (name ∷ (retain ∷ [])))) said e =
     subst (LineSound (word ∷ ns ∷ name ∷ retain ∷ [])) (same-value (Want wish) said d.after) own
 line-sound (word ∷ (ns ∷ (name ∷ (retain ∷ (other ∷ ws))))) said e = absurd (cc)
 
-flag-complete : (flag : Bool) → flag_of (flag_word flag) ≡ Some flag
+flag-complete : (flag : Bool) → read_flag (flag_word flag) ≡ Some flag
 flag-complete true = refl
 flag-complete false = refl
 

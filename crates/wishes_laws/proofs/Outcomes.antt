@@ -11,10 +11,10 @@ use Rattle.mdoc_outside.specs.declared.limit_name.LimitName.TheVariants.{Documen
 use Rattle.doc_request.specs.Draft.{is_same_element, wish_count}
 use Rattle.doc_request.specs.declared.doc_draft.DocDraft.{DocDraft}
 use Rattle.doc_request.specs.declared.wish_draft.WishDraft.{WishDraft}
-use Rattle.mdoc_program.specs.WishLine.{wish_line}
-use Rattle.mdoc_program.specs.Wishes.{Progress, with_current, unless, with_want_in, with_line, one_or_more, documents_at_end, read_on}
-use Rattle.mdoc_program.specs.declared.file_fault.FileFault.{FileFault}
-use Rattle.mdoc_program.specs.declared.file_fault.FileFault.TheVariants as fault
+use Rattle.mdoc_frame.specs.WishLine.{wish_line}
+use Rattle.mdoc_frame.specs.Wishes.{Progress, with_current, unless, with_want_in, with_line, one_or_more, documents_at_end, read_on}
+use Rattle.mdoc_frame.specs.declared.file_fault.FileFault.{FileFault}
+use Rattle.mdoc_frame.specs.declared.file_fault.FileFault.TheVariants as fault
 use Rattle.wishes_laws.specs.BadLine.{Passes, documents_of_file, wishes_of_document, wishes_of_file}
 use Rattle.wishes_laws.specs.WishesFile.{words_of}
 use Rattle.wishes_laws.proofs.Going.{begun, ends, closed, new_document, add_wish, opened, wanted, said_next, next, goes}

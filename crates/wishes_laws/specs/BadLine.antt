@@ -6,8 +6,8 @@ use Rattle.mdoc_outside.specs.declared.limit_name.LimitName.{LimitName}
 use Rattle.mdoc_outside.specs.declared.limit_name.LimitName.TheVariants.{Documents, Wishes}
 use Rattle.doc_request.specs.Draft.{wish_count}
 use Rattle.doc_request.specs.declared.doc_draft.DocDraft.{DocDraft}
-use Rattle.mdoc_program.specs.Wishes.{wishes_of}
-use Rattle.mdoc_program.specs.declared.file_fault.FileFault.TheVariants.{Limit}
+use Rattle.mdoc_frame.specs.Wishes.{wishes_of}
+use Rattle.mdoc_frame.specs.declared.file_fault.FileFault.TheVariants.{Limit}
 use Rattle.wishes_laws.specs.WishesFile.{AreLinesOf, request_lines, words_of}
 
 -- Further lines can follow such that all of them are those of documents, limits apart.

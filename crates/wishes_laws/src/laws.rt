@@ -3,8 +3,8 @@
 ghost use Rattle.std.specs.Prelude.{◌≡◌, ◌↔◌, ◌⊎◌, ℕ, List, Ok, Err};
 ghost use Rattle.doc_request.specs.declared.doc_draft.DocDraft.{DocDraft};
 ghost use Rattle.mdoc_outside.specs.declared.limit_name.LimitName.{LimitName};
-ghost use Rattle.mdoc_program.specs.Wishes.{wishes_of};
-ghost use Rattle.mdoc_program.specs.declared.file_fault.FileFault.TheVariants.{Limit, Line, Memory};
+ghost use Rattle.mdoc_frame.specs.Wishes.{wishes_of};
+ghost use Rattle.mdoc_frame.specs.declared.file_fault.FileFault.TheVariants.{Limit, Line, Memory};
 ghost use Rattle.wishes_laws.specs.BadLine.{IsBadLine, IsLimited, PassesLimit};
 ghost use Rattle.wishes_laws.specs.WishesFile.{IsWishesFile};
 

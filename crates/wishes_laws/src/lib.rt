@@ -1,5 +1,5 @@
 //! Wishes files as whole lists of lines. Its one contract: the laws that the reading of a wishes file, which
-//! `mdoc_program` defines line by line, gives documents exactly where the lines of the file are those of
+//! `mdoc_frame` defines line by line, gives documents exactly where the lines of the file are those of
 //! the documents, and else names the first line after which no lines make it such a file.
 #![tactic(auto)]
 

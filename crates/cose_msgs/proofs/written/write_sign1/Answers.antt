@@ -1,9 +1,9 @@
 use Rattle.std.proofs.Common.{sym, subst, arith, List, ℕ, option_map}
 use Rattle.std.proofs.lemmas.Grind.{common_steps}
+use Rattle.mdoc_outside.specs.Borrowed.{content}
 use Rattle.cbor_maps.specs.Labels.{label_bytes}
 use Rattle.cbor_maps.specs.Writing.{map_head}
 use Rattle.cose_msgs.specs.Message.{sign1}
-use Rattle.cose_msgs.specs.MessageView.{content}
 use Rattle.cose_msgs.specs.Written.{sign1_bytes, es256, IsReadAs}
 use Rattle.cose_msgs.proofs.FourParts.{four_parts}
 use Rattle.cose_msgs.proofs.WrittenMessages.{sign1-read, short-content}
@@ -19,6 +19,6 @@ returns-clause-read c =
     (sym (returns-clause-written c))
     (sign1-read (option_map content c.args.chain) (option_map content c.args.payload) c.args.signature.now (record {
       chain_short = short-content c.args.chain c.in_ok-unprotected.ensures.short;
-      payload_short = short-content c.args.payload c.in_ok-put_payload.ensures.short;
+      payload_short = short-content c.args.payload c.in_ok-append_payload.ensures.short;
       signature_length = omega arith;
     }))

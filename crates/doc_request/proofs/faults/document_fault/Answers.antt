@@ -7,7 +7,7 @@ use Rattle.doc_request.proofs.faults.document_fault.Goals as goal
 
 pub returns : goal.returns
 returns c =
-    three_checks _ _ _ _ _ _ _ _ c.sooner-2.ensures c.sooner.ensures
+    three_checks _ _ _ _ _ _ _ _ c.earlier-2.ensures c.earlier.ensures
     (c.of_field-inside.ensures ∙ of_field-gives (λ b. b.now) _ _ c.encoded.ensures.exact)
     (c.of_field-reader_auth.ensures ∙ of_field-gives (option_map part) _ _ c.optional_item.ensures.exact)
     c.inside_fault.ensures

@@ -7,7 +7,7 @@ use Rattle.doc_request.proofs.faults.items_fault.Goals as goal
 
 pub returns : goal.returns
 returns c =
-    four_checks _ _ _ _ _ _ _ _ _ _ _ c.sooner-3.ensures c.sooner-2.ensures c.sooner.ensures
+    four_checks _ _ _ _ _ _ _ _ _ _ _ c.earlier-3.ensures c.earlier-2.ensures c.earlier.ensures
     (c.of_field-doc_type.ensures ∙ of_field-gives (λ t. t.now) _ _ c.text.ensures.exact)
     (c.of_field-spaces.ensures ∙ of_field-gives part _ _ c.map.ensures.exact)
     (c.of_field-info.ensures ∙ of_field-gives (option_map part) _ _ c.optional_item.ensures.exact)

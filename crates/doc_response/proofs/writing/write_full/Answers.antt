@@ -30,14 +30,14 @@ returns c =
     (rw c.finish.ensures
     (rw c.in_ok-uint.ensures.ok
     (rw c.status.ensures
-    (rw c.in_ok-put_key-2.ensures
-    (rw c.in_ok-put_document_errors.ensures
+    (rw c.in_ok-append_key-2.ensures
+    (rw c.in_ok-append_document_errors.ensures
     (rw c.deref.ensures.value
     (rw c.in_ok-types.ensures
-    (rw c.in_ok-put_documents.ensures
+    (rw c.in_ok-append_documents.ensures
     (rw c.documents-2.ensures
     (rw c.in_ok-text.ensures.ok
-    (rw c.in_ok-put_key.ensures
-    (rw c.in_ok-put_map.ensures
+    (rw c.in_ok-append_key.ensures
+    (rw c.in_ok-append_map_head.ensures
     (rw c.new-build.ensures
     refl)))))))))))))

@@ -1,7 +1,7 @@
 use Rattle.std.proofs.Common.{◌≡◌, ℕ, List, Ok, option_map, rules, subst, sym}
+use Rattle.mdoc_outside.specs.Borrowed.{content}
 use Rattle.cbor_maps.specs.Labels.{label_bytes}
 use Rattle.cbor_maps.specs.Writing.{map_head}
-use Rattle.cose_msgs.specs.MessageView.{content}
 use Rattle.engagement.specs.Engagement.{engagement}
 use Rattle.engagement.specs.WrittenEngagement.{engagement_bytes}
 use Rattle.engagement.proofs.WrittenReads.{engagement-read}

@@ -2,7 +2,7 @@ use Rattle.std.proofs.Common.{sym}
 use Rattle.cbor_view.specs.View.{part}
 use Rattle.cert_view.specs.Cert.{fields}
 use Rattle.key_device.proofs.PlanLemmas.{then_more, ended}
-use Rattle.verdict_model.specs.Issued.{issuer_auth, signer_certificate}
+use Rattle.verdict_model.specs.IssuerStatement.{issuer_auth, signer_certificate}
 use Rattle.verdict_model.specs.declared.doc_check.DocCheck.TheVariants as checks
 use Rattle.issuer_checks.specs.Views.{auth_seen, signer_seen}
 use Rattle.issuer_checks.proofs.ChecksInOrder.{stopped, there}

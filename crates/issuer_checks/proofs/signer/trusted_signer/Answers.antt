@@ -1,8 +1,8 @@
 use Rattle.std.proofs.Common.{◌≡◌, true, false, arith}
 use Rattle.cert_view.specs.Cert.{fields}
-use Rattle.doc_request.specs.Known.{are_valid}
+use Rattle.root_trust.specs.Validity.{are_valid}
 use Rattle.key_device.proofs.PlanLemmas.{then_more}
-use Rattle.verdict_model.specs.Issued.{has_named_root}
+use Rattle.root_trust.specs.Names.{has_named_root}
 use Rattle.verdict_model.specs.declared.doc_check.DocCheck.TheVariants as checks
 use Rattle.issuer_checks.proofs.ChecksInOrder.{fails, holds, last_fails, last_holds}
 use Rattle.issuer_checks.proofs.signer.trusted_signer.Goals as goal

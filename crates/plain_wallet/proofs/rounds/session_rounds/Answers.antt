@@ -2,7 +2,7 @@ use Rattle.std.proofs.Common.{◌<◌, ◌∙◌, Err, length, arith}
 use Rattle.std.proofs.lemmas.List.{get_or_default}
 use Rattle.std.proofs.lemmas.Result.{err_from_is_err_and}
 use Rattle.key_device.specs.Recording.{talk}
-use Rattle.wallet_choice.specs.SetupView.{setup_of}
+use Rattle.wallet_answer.specs.SetupView.{setup_of}
 use Rattle.plain_wallet.proofs.RoundLemmas.{later_than_first, session_at_front, session_before, session_wanting, session_wanting_after}
 use Rattle.plain_wallet.proofs.rounds.session_rounds.Goals as goal
 

@@ -1,4 +1,4 @@
-use Rattle.wallet_choice.specs.SetupView.{setup_of}
+use Rattle.wallet_answer.specs.SetupView.{setup_of}
 use Rattle.plain_wallet.proofs.RunLemmas.{not_started, ran, ran_short}
 use Rattle.plain_wallet.proofs.wallet.plain_wallet.Goals as goal
 

@@ -1,7 +1,7 @@
 use Rattle.std.proofs.Common.{refl}
 use Rattle.std.proofs.lemmas.Result.{err_from_is_err_and}
 use Rattle.key_device.proofs.PlanLemmas.{unasked}
-use Rattle.wallet_choice.specs.SetupView.{setup_of}
+use Rattle.wallet_answer.specs.SetupView.{setup_of}
 use Rattle.plain_wallet.proofs.RunLemmas.{session_cut, session_ran}
 use Rattle.plain_wallet.proofs.wallet.run_from.Goals as goal
 

@@ -1,7 +1,7 @@
 use Rattle.std.proofs.Common.{◌≡◌, ◌∷◌, ◌++◌, [], List, length, Some, Ok, refl, ◌∙◌, subst, add-one, length-append}
 use Rattle.doc_response.specs.ResponseDocs.{document_seen, documents_left}
 use Rattle.doc_response.specs.Response.{Document}
-use Rattle.document_checks.specs.Views.{setting_seen}
+use Rattle.reader_checks.specs.Views.{setting_seen}
 use Rattle.key_device.proofs.GaveLemmas.{gave_none, gave_then}
 use Rattle.key_device.proofs.PlanStepLemmas.{each_begun, each_cut, each_more, each_paused, each_stopped}
 use Rattle.key_device.specs.Plan.{Follows}

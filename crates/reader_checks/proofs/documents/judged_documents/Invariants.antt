@@ -1,6 +1,6 @@
 use Rattle.std.proofs.Common.{◌≡◌, length, take, drop, Some, Ok}
 use Rattle.doc_response.specs.ResponseDocs.{documents_left}
-use Rattle.document_checks.specs.Views.{setting_seen}
+use Rattle.reader_checks.specs.Views.{setting_seen}
 use Rattle.key_device.specs.Gave.{Gave}
 use Rattle.key_device.specs.Plan.{Follows}
 use Rattle.key_device.specs.PlanSteps.{each}

@@ -1,5 +1,5 @@
 use Rattle.key_device.specs.Recording.{talk}
-use Rattle.wallet_choice.specs.SetupView.{setup_of}
+use Rattle.wallet_answer.specs.SetupView.{setup_of}
 use Rattle.wallet_answer.proofs.Exits.{answered_not_cbor}
 use Rattle.wallet_answer.proofs.answering.answer.Goals as goal
 

@@ -2,11 +2,11 @@ use Rattle.std.proofs.Common.{Ok, Err, map}
 use Rattle.doc_request.specs.Views.{document_seen}
 use Rattle.key_device.specs.Recording.{talk}
 use Rattle.key_device.specs.declared.device_fault.DeviceFault.TheVariants.{Failed}
-use Rattle.wallet_choice.specs.ChoiceView.{choice_seen}
-use Rattle.wallet_choice.specs.SetupView.{setup_of}
-use Rattle.wallet_choice.specs.Texts.{name_seen, reader_seen}
+use Rattle.wallet_answer.specs.ChoiceView.{choice_seen}
+use Rattle.wallet_answer.specs.SetupView.{setup_of}
+use Rattle.wallet_answer.specs.Texts.{name_seen, reader_seen}
 use Rattle.wallet_model.specs.Released.{selections}
-use Rattle.wallet_response.specs.Documents.{documents_with}
+use Rattle.wallet_answer.specs.Documents.{documents_with}
 use Rattle.wallet_answer.proofs.Exits.{full_text, selected_came, selected_cut}
 use Rattle.wallet_answer.proofs.answering.answer_documents.Goals as goal
 

@@ -1,8 +1,8 @@
 use Rattle.cbor_view.specs.View.{part}
 use Rattle.doc_request.specs.Views.{documents_of}
 use Rattle.key_device.specs.Recording.{talk}
-use Rattle.request_names.proofs.DistinctWishes.{are_wishes_distinct}
-use Rattle.wallet_choice.specs.SetupView.{setup_of}
+use Rattle.wallet_answer.proofs.DistinctWishes.{are_wishes_distinct}
+use Rattle.wallet_answer.specs.SetupView.{setup_of}
 use Rattle.wallet_answer.specs.AnswerView.{answer_of}
 use Rattle.wallet_answer.proofs.Exits.{answered_no_request, answered_request, is_request}
 use Rattle.wallet_answer.proofs.answering.answer_item.Goals as goal

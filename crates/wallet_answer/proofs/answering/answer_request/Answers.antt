@@ -5,8 +5,8 @@ use Rattle.doc_request.specs.Draft.{are_distinct}
 use Rattle.doc_request.specs.Views.{document_seen, documents_of}
 use Rattle.key_device.specs.Recording.{talk}
 use Rattle.key_device.specs.declared.device_fault.DeviceFault.TheVariants.{Failed}
-use Rattle.wallet_choice.specs.SetupView.{setup_of}
-use Rattle.wallet_choice.specs.Texts.{reader_seen}
+use Rattle.wallet_answer.specs.SetupView.{setup_of}
+use Rattle.wallet_answer.specs.Texts.{reader_seen}
 use Rattle.wallet_model.specs.Answer.{without_items}
 use Rattle.wallet_answer.specs.AnswerView.{answer_of}
 use Rattle.wallet_answer.proofs.Counts.{as_many}

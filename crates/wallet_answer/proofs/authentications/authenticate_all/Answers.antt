@@ -7,7 +7,7 @@ use Rattle.key_device.specs.Recording.{talk}
 use Rattle.key_device.proofs.GaveLemmas.{gave_then}
 use Rattle.key_device.proofs.PlanStepLemmas.{each_more, each_stopped, each_cut}
 use Rattle.wallet_answer.specs.Authenticated.{authenticated_choice}
-use Rattle.wallet_choice.specs.ChoiceView.{choice_seen}
+use Rattle.wallet_answer.specs.ChoiceView.{choice_seen}
 use Rattle.wallet_answer.proofs.Exits.{documents_more}
 use Rattle.wallet_answer.proofs.authentications.authenticate_all.Goals as goal
 

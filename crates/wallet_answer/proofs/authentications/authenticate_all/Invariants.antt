@@ -4,8 +4,8 @@ use Rattle.key_device.specs.Plan.{Follows}
 use Rattle.key_device.specs.PlanSteps.{each}
 use Rattle.key_device.specs.Recording.{talk}
 use Rattle.wallet_answer.specs.Authenticated.{authenticated_choice}
-use Rattle.wallet_choice.specs.ChoiceView.{choice_seen}
-use Rattle.wallet_response.specs.Documents.{documents_with}
+use Rattle.wallet_answer.specs.ChoiceView.{choice_seen}
+use Rattle.wallet_answer.specs.Documents.{documents_with}
 use Rattle.wallet_answer.proofs.authentications.authenticate_all.Given as goal
 
 -- so far the plan was followed for the documents before

@@ -1,7 +1,7 @@
 use Rattle.std.proofs.Common.{◌≡◌, ◌++◌, length, map}
 use Rattle.std.specs.Vec.Iter.{into_iter_items, into_iter_len}
 use Rattle.wallet_answer.specs.Places.{places_in}
-use Rattle.wallet_choice.specs.ChoiceView.{choice_seen}
+use Rattle.wallet_answer.specs.ChoiceView.{choice_seen}
 use Rattle.wallet_answer.proofs.places.released_places.Given as goal
 
 -- the places so far, and those of the documents that are left

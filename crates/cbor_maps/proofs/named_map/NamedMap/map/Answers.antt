@@ -4,5 +4,5 @@ use Rattle.cbor_maps.specs.NamedMap.{whole_map}
 use Rattle.cbor_maps.proofs.Within.{map-under}
 use Rattle.cbor_maps.proofs.named_map.NamedMap.map.Goals as goal
 
-pub returns-in-Some-clause-lies : goal.returns-in-Some-clause-lies
-returns-in-Some-clause-lies c = map-under (whole_map c.args.self.now) (part c.in-Once.value) (part c.in-Some.read) c.args.name (sym c.in-Once.ensures) (sym c.in-Some.ensures)
+pub returns-in-Some-clause-stands_in : goal.returns-in-Some-clause-stands_in
+returns-in-Some-clause-stands_in c = map-under (whole_map c.args.self.now) (part c.in-Once.value) (part c.in-Some.read) c.args.name (sym c.in-Once.ensures) (sym c.in-Some.ensures)

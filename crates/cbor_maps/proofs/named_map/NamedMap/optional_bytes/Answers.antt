@@ -4,5 +4,5 @@ use Rattle.cbor_maps.specs.NamedMap.{whole_map}
 use Rattle.cbor_maps.proofs.Within.{bytes-under}
 use Rattle.cbor_maps.proofs.named_map.NamedMap.optional_bytes.Goals as goal
 
-pub returns-in-Some-clause-lies : goal.returns-in-Some-clause-lies
-returns-in-Some-clause-lies c = bytes-under (whole_map c.args.self.now) (part c.in-Once.value) c.args.name c.in-Some.read.now (sym c.in-Once.ensures) (sym c.in-Some.ensures)
+pub returns-in-Some-clause-stands_in : goal.returns-in-Some-clause-stands_in
+returns-in-Some-clause-stands_in c = bytes-under (whole_map c.args.self.now) (part c.in-Once.value) c.args.name c.in-Some.read.now (sym c.in-Once.ensures) (sym c.in-Some.ensures)

@@ -18,5 +18,5 @@ returns-clause-place c = search rules
 pub returns-clause-exact : goal.returns-clause-exact
 returns-clause-exact c = entry-found (label_of c.args.key) (tree c.args.self.now) (part c.args.self.now) (pairs_left c.in-Some.pairs) (option_map part c.loop-name.found) c.in-Some.ensures.exact c.in-Some.ensures.place (returns-clause-place c) ∙ ap (λ o. Ok o) (seen-tree c.loop-name.found)
 
-pub returns-clause-lies : goal.returns-clause-lies
-returns-clause-lies c = found-lies (part c.args.self.now) (label_of c.args.key) (pairs_left c.in-Some.pairs) c.loop-name.found c.in-Some.ensures.lie c.in-Some.ensures.place (returns-clause-place c)
+pub returns-clause-stands_in : goal.returns-clause-stands_in
+returns-clause-stands_in c = found-lies (part c.args.self.now) (label_of c.args.key) (pairs_left c.in-Some.pairs) c.loop-name.found c.in-Some.ensures.lie c.in-Some.ensures.place (returns-clause-place c)

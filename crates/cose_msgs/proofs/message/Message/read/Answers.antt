@@ -6,5 +6,5 @@ use Rattle.cose_msgs.proofs.message.Message.read.Goals as goal
 pub returns-in-Some-clause-exact : goal.returns-in-Some-clause-exact
 returns-in-Some-clause-exact c = search rules
 
-pub returns-in-Some-clause-lies : goal.returns-in-Some-clause-lies
-returns-in-Some-clause-lies c = message-gives c.args.tag (part c.args.item) c.of_items.result (returns-in-Some-clause-exact c)
+pub returns-in-Some-clause-stands_in : goal.returns-in-Some-clause-stands_in
+returns-in-Some-clause-stands_in c = message-gives c.args.tag (part c.args.item) c.of_items.result (returns-in-Some-clause-exact c)

@@ -18,5 +18,5 @@ invariant_of-result c =
 pub returns-clause-exact : goal.returns-clause-exact
 returns-clause-exact c = (each_at copy no_copy (left c.stored_copies.result) _ c.args.n (part c.in-Some.stored) c.stored_copies.ensures.given (sym c.in-Some.ensures)).given
 
-pub returns-clause-lies : goal.returns-clause-lies
-returns-clause-lies c = part-at (document_part c.args.self.now) (left c.stored_copies.result) c.args.n (part c.in-Some.stored) c.stored_copies.ensures.lie (sym c.in-Some.ensures)
+pub returns-clause-stands_in : goal.returns-clause-stands_in
+returns-clause-stands_in c = part-at (document_part c.args.self.now) (left c.stored_copies.result) c.args.n (part c.in-Some.stored) c.stored_copies.ensures.lie (sym c.in-Some.ensures)

@@ -18,5 +18,5 @@ invariant_of-result c =
 pub returns-clause-exact : goal.returns-clause-exact
 returns-clause-exact c = (each_at document no_document (left c.stored_documents.result) _ c.args.n (part c.in-Some.stored) c.stored_documents.ensures.given (sym c.in-Some.ensures)).given
 
-pub returns-clause-lies : goal.returns-clause-lies
-returns-clause-lies c = part-at (whole_file c.args.self.now) (left c.stored_documents.result) c.args.n (part c.in-Some.stored) c.stored_documents.ensures.lie (sym c.in-Some.ensures)
+pub returns-clause-stands_in : goal.returns-clause-stands_in
+returns-clause-stands_in c = part-at (whole_file c.args.self.now) (left c.stored_documents.result) c.args.n (part c.in-Some.stored) c.stored_documents.ensures.lie (sym c.in-Some.ensures)

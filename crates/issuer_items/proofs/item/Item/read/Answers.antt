@@ -8,5 +8,5 @@ pub returns-in-Ok-of_map-clause-exact : goal.returns-in-Ok-of_map-clause-exact
 unfolding item
 returns-in-Ok-of_map-clause-exact c = search rules
 
-pub returns-in-Ok-of_map-clause-lies : goal.returns-in-Ok-of_map-clause-lies
-returns-in-Ok-of_map-clause-lies c = item-parts c.args.raw.now (fields c.in-Ok-of_map.item) (returns-in-Ok-of_map-clause-exact c)
+pub returns-in-Ok-of_map-clause-stands_in : goal.returns-in-Ok-of_map-clause-stands_in
+returns-in-Ok-of_map-clause-stands_in c = item-parts c.args.raw.now (fields c.in-Ok-of_map.item) (returns-in-Ok-of_map-clause-exact c)

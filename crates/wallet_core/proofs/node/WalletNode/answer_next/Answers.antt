@@ -1,9 +1,9 @@
 use Rattle.key_device.specs.Recording.{talk}
-use Rattle.wallet_choice.specs.SetupView.{setup_of}
+use Rattle.wallet_answer.specs.SetupView.{setup_of}
 use Rattle.wallet_model.specs.Stands as states
 use Rattle.wallet_core.specs.NodeView.{node_seen}
-use Rattle.wallet_round.proofs.Within.{within_next}
-use Rattle.wallet_core.proofs.Exits.{next_lost, placed, settled}
+use Rattle.wallet_core.proofs.Within.{within_next}
+use Rattle.wallet_core.proofs.NodeExits.{next_lost, placed, settled}
 use Rattle.wallet_core.proofs.node.WalletNode.answer_next.Goals as goal
 
 pub settle-requires : goal.settle-requires
@@ -15,7 +15,7 @@ restore_next-requires-clause-within g c =
 
 pub returns-in-Ok-clause-answers : goal.returns-in-Ok-clause-answers
 returns-in-Ok-clause-answers g c =
-    settled (node_seen c.args.self.now) (states.Open c.args.waiting) c.args.message.now (talk c.args.device.now) (talk c.next_round.new.device) c.args.joining c.in-Ok.round c.settle.result (node_seen c.settle.new.self)
+    settled (node_seen c.args.self.now) (states.Open c.args.waiting) c.args.message.now (talk c.args.device.now) (talk c.next_round.new.device) c.args.message_joiner c.in-Ok.round c.settle.result (node_seen c.settle.new.self)
     c.requires.lost (rw c.into_open.ensures.same at c.in-Ok.ensures.round) c.settle.ensures.settles c.settle.ensures.lost
 
 pub returns-in-Err-clause-answers : goal.returns-in-Err-clause-answers

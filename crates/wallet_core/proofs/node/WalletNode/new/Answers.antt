@@ -1,6 +1,6 @@
-use Rattle.wallet_choice.specs.SetupView.{setup_of}
+use Rattle.wallet_answer.specs.SetupView.{setup_of}
 use Rattle.wallet_core.specs.NodeView.{node_seen}
-use Rattle.wallet_core.proofs.Start.{begins}
+use Rattle.wallet_core.proofs.StartLemmas.{begins}
 use Rattle.wallet_core.proofs.node.WalletNode.new.Goals as goal
 
 pub returns-in-Ok-clause-starts : goal.returns-in-Ok-clause-starts

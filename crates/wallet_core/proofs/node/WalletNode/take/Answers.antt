@@ -3,7 +3,7 @@ use Rattle.key_device.proofs.GaveLemmas.{gave_none}
 use Rattle.key_device.specs.Recording.{talk}
 use Rattle.wallet_core.specs.NodeView.{node_seen}
 use Rattle.wallet_core.specs.StateView.{over_end}
-use Rattle.wallet_core.proofs.Exits.{after_end, goes_on, live, rests}
+use Rattle.wallet_core.proofs.NodeExits.{after_end, goes_on, live, rests}
 use Rattle.wallet_core.proofs.node.WalletNode.take.Goals as goal
 
 pub take_live-requires : goal.take_live-requires

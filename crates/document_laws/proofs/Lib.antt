@@ -1,4 +1,0 @@
-mod Lists
-mod Walks
-mod Roots
-mod FirstFailure

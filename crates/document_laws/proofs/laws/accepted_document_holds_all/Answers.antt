@@ -1,5 +1,0 @@
-use Rattle.document_laws.proofs.FirstFailure.{are_accepted_where_all_hold}
-use Rattle.document_laws.proofs.laws.accepted_document_holds_all.Goals as goal
-
-pub returns : goal.returns
-returns c = are_accepted_where_all_hold

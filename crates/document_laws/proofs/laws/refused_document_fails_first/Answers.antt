@@ -1,5 +1,0 @@
-use Rattle.document_laws.proofs.FirstFailure.{are_refused_by_first_failure}
-use Rattle.document_laws.proofs.laws.refused_document_fails_first.Goals as goal
-
-pub returns : goal.returns
-returns c = are_refused_by_first_failure

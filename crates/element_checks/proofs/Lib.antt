@@ -1,3 +1,0 @@
-pub mod DigestLength
-pub mod NameSets
-pub mod VerdictSteps

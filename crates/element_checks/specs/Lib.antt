@@ -1,2 +1,0 @@
-pub mod ElementNames
-pub mod FirstCheck

@@ -1,0 +1,9 @@
+pub mod SpecElementLemmas
+pub mod SpecForms
+pub mod SpecHeaderLemmas
+pub mod SpecLaws
+pub mod SpecMandatory
+pub mod SpecNamespaceLemmas
+pub mod SpecPrefix
+pub mod SpecTimes
+pub mod SpecValues

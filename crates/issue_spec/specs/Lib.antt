@@ -1,0 +1,11 @@
+pub mod Spec
+pub mod SpecChecks
+pub mod SpecEnd
+pub mod SpecFacts
+pub mod SpecFile
+pub mod SpecLine
+pub mod SpecNamespaces
+pub mod SpecReading
+pub mod SpecSoFar
+pub mod SpecValue
+pub mod SpecWords

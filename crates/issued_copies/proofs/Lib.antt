@@ -1,2 +1,0 @@
-mod CopyLemmas
-mod GroupLemmas

@@ -1,8 +1,0 @@
-use Rattle.std.proofs.Common.{◌≡◌, map, take}
-use Rattle.doc_response.specs.Namespaces.{texts}
-use Rattle.issued_copies.specs.Groups.{ns_of}
-use Rattle.issued_copies.proofs.namespaces.namespaces.Given as goal
-
--- the namespaces so far
-abbrev pub invariant-loop-element : goal.invariant-loop-element
-invariant-loop-element l = texts l.all.items ≡ map ns_of (take l.element-index l.elements)

@@ -1,3 +1,0 @@
-pub mod Appending
-pub mod Copies
-pub mod Groups

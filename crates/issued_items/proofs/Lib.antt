@@ -1,5 +1,0 @@
-pub mod ElementLemmas
-pub mod ItemLemmas
-mod ItemLengths
-mod MadeCopies
-pub mod ObjectLemmas

@@ -1,5 +1,0 @@
-use Rattle.issued_items.proofs.MadeCopies.{made}
-use Rattle.issued_items.proofs.laws.object_of_a_copy_is_made_from_its_items.Goals as goal
-
-pub returns : goal.returns
-returns c = made

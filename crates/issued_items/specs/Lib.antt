@@ -1,2 +1,0 @@
-pub mod IssuedItems
-pub mod MadeCopies

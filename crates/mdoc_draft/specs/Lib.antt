@@ -1,0 +1,9 @@
+pub mod AnsweredDocument
+pub mod Cases
+pub mod Core
+pub mod Draft
+pub mod Entry
+pub mod Exact
+pub mod Printed
+pub mod Released
+pub mod ReleasedExactly

@@ -1,0 +1,10 @@
+pub mod EndLemmas
+pub mod FileFaults
+pub mod NumberLemmas
+pub mod OtherStoreLemmas
+pub mod PairLemmas
+pub mod RequestLemmas
+pub mod RootLemmas
+pub mod RunLemmas
+pub mod StepLemmas
+pub mod WishNames

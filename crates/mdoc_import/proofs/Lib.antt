@@ -1,0 +1,4 @@
+pub mod EndLemmas
+pub mod ImportAlike
+pub mod ImportLemmas
+pub mod RowLemmas

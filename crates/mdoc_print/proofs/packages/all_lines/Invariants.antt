@@ -1,7 +1,0 @@
-use Rattle.std.proofs.Common.{◌≡◌, ◌++◌, drop}
-use Rattle.mdoc_print.specs.PackageLines.{all_lines}
-use Rattle.mdoc_print.proofs.packages.all_lines.Given as goal
-
--- the lines so far, and those of the documents that are left, are all
-abbrev pub invariant-loop-verdict : goal.invariant-loop-verdict
-invariant-loop-verdict l = l.lines.items ++ all_lines (drop l.verdict-index l.verdicts) ≡ all_lines l.verdicts

@@ -1,5 +1,0 @@
-use Rattle.mdoc_program.proofs.ExactLemmas.{each_released_once}
-use Rattle.mdoc_program.proofs.laws.each_released_once.Goals as goal
-
-pub returns : goal.returns
-returns c = each_released_once

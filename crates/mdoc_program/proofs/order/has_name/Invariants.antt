@@ -1,8 +1,0 @@
--- The pairs that are left have the name as all pairs do.
-use Rattle.std.proofs.Common.{◌≡◌, drop, map}
-use Rattle.mdoc_program.specs.Order.{has_name}
-use Rattle.mdoc_program.specs.Row.{pair_seen}
-use Rattle.mdoc_program.proofs.order.has_name.Given as goal
-
-abbrev pub invariant-loop-pair : goal.invariant-loop-pair
-invariant-loop-pair l = has_name (map pair_seen (drop l.pair-index l.pairs)) l.name ≡ has_name (map pair_seen l.pairs) l.name

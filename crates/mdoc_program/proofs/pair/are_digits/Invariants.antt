@@ -1,7 +1,0 @@
--- The bytes that are left are digits as all bytes are.
-use Rattle.std.proofs.Common.{◌≡◌, drop}
-use Rattle.std.specs.Str.{all_ascii_digits}
-use Rattle.mdoc_program.proofs.pair.are_digits.Given as goal
-
-abbrev pub invariant-loop-byte : goal.invariant-loop-byte
-invariant-loop-byte l = all_ascii_digits (drop l.byte-index l.bytes) ≡ all_ascii_digits l.bytes

@@ -1,5 +1,0 @@
-use Rattle.message_laws.proofs.Messages.{code-lies}
-use Rattle.message_laws.proofs.laws.code_lies.Goals as goal
-
-pub returns : goal.returns
-returns c = code-lies

@@ -1,5 +1,0 @@
-use Rattle.message_laws.proofs.Items.{item-lies}
-use Rattle.message_laws.proofs.laws.item_lies.Goals as goal
-
-pub returns : goal.returns
-returns c = item-lies

@@ -1,5 +1,0 @@
-use Rattle.message_laws.proofs.Messages.{signature-lies}
-use Rattle.message_laws.proofs.laws.signature_lies.Goals as goal
-
-pub returns : goal.returns
-returns c = signature-lies

@@ -1,5 +1,0 @@
-use Rattle.message_laws.proofs.Strings.{whole-lies}
-use Rattle.message_laws.proofs.laws.whole_lies.Goals as goal
-
-pub returns : goal.returns
-returns c = whole-lies

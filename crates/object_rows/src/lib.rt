@@ -1,5 +1,0 @@
-//! Worked cases of security objects, as tests alone.
-#![tactic(auto)]
-
-#[cfg(test)]
-mod objects;

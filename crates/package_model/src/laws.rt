@@ -1,8 +1,0 @@
-//! What holds of the definitions alone: the contract of a function that does nothing.
-
-ghost use Rattle.package_model.specs.Laws.{IsCovered};
-
-/// Where no check of an item fails, the security object of the copy has the digest of each (ISO/IEC 18013-5, 9.1.2.4).
-pub fn accepted_copy_is_covered()
-    ensures { IsCovered }
-{}

@@ -1,5 +1,0 @@
-use Rattle.released_laws.proofs.Least.{agreement_is_least}
-use Rattle.released_laws.proofs.laws.agreement_is_least.Goals as goal
-
-pub returns : goal.returns
-returns c = agreement_is_least

@@ -1,5 +1,0 @@
-use Rattle.released_laws.proofs.Answers.{is_released_exactly}
-use Rattle.released_laws.proofs.laws.released_exactly.Goals as goal
-
-pub returns : goal.returns
-returns c = is_released_exactly

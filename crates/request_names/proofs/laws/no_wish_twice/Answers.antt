@@ -1,5 +1,0 @@
-use Rattle.request_names.proofs.DistinctWishes.{are_wishes_distinct}
-use Rattle.request_names.proofs.laws.no_wish_twice.Goals as goal
-
-pub returns : goal.returns
-returns c = are_wishes_distinct

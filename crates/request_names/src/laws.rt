@@ -1,8 +1,0 @@
-//! What holds of the definitions alone.
-
-ghost use Rattle.request_names.specs.Distinct.{AreWishesDistinct};
-
-/// Of each document that a text asks for, no two wishes are for one element.
-pub fn no_wish_twice()
-    ensures { AreWishesDistinct }
-{}

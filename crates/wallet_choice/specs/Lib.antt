@@ -1,5 +1,0 @@
-pub mod ChoiceView
-pub mod Progress
-pub mod Selecting
-pub mod SetupView
-pub mod Texts

@@ -1,5 +1,0 @@
-pub mod Opened
-pub mod Talks
-pub mod FirstRound
-pub mod NextRound
-pub mod Within

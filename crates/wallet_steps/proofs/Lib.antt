@@ -1,4 +1,0 @@
-pub mod AfterEnd
-pub mod RoundSteps
-pub mod RunLemmas
-pub mod Taken

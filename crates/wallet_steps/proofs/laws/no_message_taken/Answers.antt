@@ -1,8 +1,0 @@
-use Rattle.wallet_steps.proofs.Taken.{is_list_end, is_quiet}
-use Rattle.wallet_steps.proofs.laws.no_message_taken.Goals as goal
-
-pub returns-clause-quiet : goal.returns-clause-quiet
-returns-clause-quiet c = is_quiet
-
-pub returns-clause-ended : goal.returns-clause-ended
-returns-clause-ended c = is_list_end

@@ -1,8 +1,0 @@
-use Rattle.wallet_steps.proofs.Taken.{is_answered, is_round_end}
-use Rattle.wallet_steps.proofs.laws.one_message_taken.Goals as goal
-
-pub returns-clause-ended : goal.returns-clause-ended
-returns-clause-ended c = is_round_end
-
-pub returns-clause-answered : goal.returns-clause-answered
-returns-clause-answered c = is_answered
